@@ -1,0 +1,4 @@
+use Rattle.resource.proofs.steps.tests.a_count_takes_no_bytes.Given as goal
+
+abbrev pub ghosts-count : goal.ghosts-count
+ghosts-count g a = record { name = a.blank.name; parts = a.blank.parts }
