@@ -1,0 +1,4 @@
+pub mod Files
+pub mod Sinks
+pub mod MemFiles
+pub mod MemSink
