@@ -1,0 +1,1 @@
+local a = 2 local b = a * 3 - 1 print(b) print(a + b)

@@ -1,0 +1,19 @@
+use Rattle.std.proofs.Common.{refl}
+use Rattle.luau_cli.specs.Making.{answer_of}
+use Rattle.luau_cli.proofs.Replying.{usage_written, answers_words, answers_other, runs_script}
+use Rattle.luau_cli.proofs.Refused.{refused_outside}
+use Rattle.luau_cli.proofs.top.top.Goals as goal
+
+pub returns-in_default-clause-answer : goal.returns-in_default-clause-answer
+returns-in_default-clause-answer g c =
+    let w = c.put_all.ensures in
+    answers_other (g.F.Files.contents c.args.files.now) _ _ _ _ 2 c.in_default.ensures
+    (usage_written _ _ _ c.put_all.result refl (refl, refl) w.ok w.err w.no_fault w.fault)
+
+pub returns-in-Ok-clause-answer : goal.returns-in-Ok-clause-answer
+returns-in-Ok-clause-answer g c =
+    answers_words (g.F.Files.contents c.args.files.now) _ c.in-Some.file.now _ _ (answer_of c.in-Ok.reply) _ _ c.deliver.result c.in-Some.ensures c.in-Ok.ensures.told c.deliver.ensures
+
+pub returns-in-Ok-clause-runs : goal.returns-in-Ok-clause-runs
+returns-in-Ok-clause-runs g c =
+    runs_script (g.F.Files.contents c.args.files.now) _ c.in-Some.file.now _ _ (answer_of c.in-Ok.reply) _ _ c.deliver.result refused_outside c.in-Some.ensures c.in-Ok.ensures.told c.deliver.ensures

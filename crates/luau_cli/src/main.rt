@@ -1,0 +1,49 @@
+//! The command line of the Luau compiler and sandbox.
+#![tactic(auto)]
+
+mod code;
+mod compile;
+mod lexer;
+mod machine;
+mod outcome;
+mod reader;
+mod reply;
+mod scope;
+mod script;
+mod sums;
+#[cfg(test)]
+mod tests;
+mod top;
+mod walk;
+
+use outside_io::{OsFiles, OsSink};
+use std::process::ExitCode;
+use std::rt::Env;
+use std::{env, io};
+use top::{OUT_OF_MEMORY, top};
+
+fn main(rt: HostRuntime) -> ExitCode {
+    let mut out = OsSink::new(rt.stdout());
+    let mut report = OsSink::new(rt.stderr());
+    let Ok(files) = rt.clone() else {
+        return ExitCode::from(OUT_OF_MEMORY);
+    };
+    let mut files = OsFiles::new(files);
+    let status = match words(&rt) {
+        Ok(words) => top(
+            rt.alloc(),
+            words.as_slice(),
+            &mut files,
+            &mut out,
+            &mut report,
+        ),
+        Err(error) if error.kind() == io::ErrorKind::OutOfMemory => OUT_OF_MEMORY,
+        Err(_) => top(rt.alloc(), &[], &mut files, &mut out, &mut report),
+    };
+    ExitCode::from(status)
+}
+
+/// The words after the program's name. They fail as a whole where one is not UTF-8.
+fn words(rt: &(impl Env + AllocGlobal)) -> io::Result<Vec<String>> {
+    Ok(env::args(rt)?.skip(1).collect(rt.alloc())?)
+}

@@ -1,0 +1,73 @@
+//! Answers: what is written, and with which status the program ends.
+
+ghost use Rattle.std.specs.Prelude.{◌≡◌, ◌≤◌, ◌⊎◌, ◌++◌, ◌∷◌, [], IfOk, codes};
+ghost use Rattle.std.specs.Fmt.{decimal};
+ghost use Rattle.outside_io.specs.Sinks.{appended};
+ghost use Rattle.luau_cli.specs.Answer.{refusal, line_of};
+ghost use Rattle.luau_cli.specs.Delivery.{Delivers, change};
+ghost use Rattle.luau_cli.specs.Making.{answer_of};
+
+use outside_io::{Sink, WriteErr, put_all};
+use resource::OutOfMemory;
+use std::alloc::Global;
+
+/// The status where a write failed.
+pub const WRITE_FAULT: u8 = 5;
+
+/// A status, and the bytes for the output and the report.
+#[derive(Drop)]
+pub struct Reply {
+    pub status: u8,
+    pub output: Vec<u8>,
+    pub report: Vec<u8>,
+}
+
+impl Reply {
+    /// A refusal: no output, and a line of two parts for the report.
+    pub fn refusal(
+        alloc: Global,
+        status: u8,
+        about: &[u8],
+        detail: &[u8],
+    ) -> Result<Reply, OutOfMemory>
+        ensures { IfOk result (λ r. answer_of r ≡ refusal status (about.now ++ detail.now)) }
+    {
+        let report = line(alloc, about, detail)?;
+        Ok(Reply {
+            status,
+            output: Vec::new(alloc),
+            report,
+        })
+    }
+
+    /// Writes the output and then the report, and gives the status.
+    ///
+    /// Behind a failed write nothing more is written.
+    pub fn deliver<O: Sink, E: Sink>(&self, out: &mut O, report: &mut E) -> u8
+        requires { self.now.status ≤ 1 ⊎ (self.now.output.items ≡ []) }
+        ensures { Delivers (answer_of self.now)
+            (change (O.bytes out.old) (O.bytes out.new) (O.faults out.old) (O.faults out.new))
+            (change (E.bytes report.old) (E.bytes report.new) (E.faults report.old) (E.faults report.new))
+            result }
+    {
+        match put_all(out, self.output.as_slice()) {
+            Ok(()) => {}
+            Err(WriteErr::WriteFault) => return WRITE_FAULT,
+        }
+        match put_all(report, self.report.as_slice()) {
+            Ok(()) => self.status,
+            Err(WriteErr::WriteFault) if self.status <= 1 => WRITE_FAULT,
+            Err(WriteErr::WriteFault) => self.status,
+        }
+    }
+}
+
+/// A line of two parts.
+pub fn line(alloc: Global, about: &[u8], detail: &[u8]) -> Result<Vec<u8>, OutOfMemory>
+    ensures { IfOk result (λ v. v.items ≡ line_of (about.now ++ detail.now)) }
+{
+    let mut line = Vec::from_slice(alloc, about)?;
+    line.extend_from_slice(detail)?;
+    line.push(b'\n')?;
+    Ok(line)
+}
