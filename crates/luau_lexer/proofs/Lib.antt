@@ -1,0 +1,13 @@
+pub mod Bodies
+pub mod ClosingPlaces
+pub mod Courses
+pub mod Digits
+pub mod EachPlace
+pub mod EachString
+pub mod Exact
+pub mod Findings
+pub mod OneReading
+pub mod Tables
+pub mod Texts
+pub mod UniquePlaces
+pub mod UniqueStrings

@@ -1,0 +1,36 @@
+use Rattle.std.proofs.Common.{length, take, [], ap, ◌∙◌, refl, arith}
+use Rattle.syntax_tree.specs.declared.token.TokenKind.TheVariants.{Number}
+use Rattle.whole_num.specs.declared.literal.Read.TheVariants as read
+use Rattle.luau_lexer.specs.declared.error.LexErr.TheVariants.{BadNumber, NotWholeLiteral, LiteralRange}
+use Rattle.luau_lexer.specs.declared.form.Form.TheVariants as form
+use Rattle.luau_lexer.specs.Plain.{Numeral, number_len}
+use Rattle.luau_lexer.specs.Spellings.{Passes, Fails, Lexeme}
+use Rattle.luau_lexer.proofs.Findings.{finds_token, number_stands}
+use Rattle.luau_lexer.proofs.lexer.Lexer.number.Goals as goal
+
+pub returns-in-Whole-clause-found : goal.returns-in-Whole-clause-found
+returns-in-Whole-clause-found c =
+    let p = c.args.self.now in
+    let rest = c.rest-bytes.ensures.value in
+    let len = c.number_len-len.result in
+    let e = c.number_len-len.ensures.value ∙ ap number_len rest in
+    let stands = number_stands p len c.split_at.result.0.now (read.Whole c.in-Whole.n) (Passes (Lexeme (Numeral c.in-Whole.n) len p.braces)) (c.split_at.ensures.front ∙ ap (take len) rest) e c.in-Whole.ensures.reads refl in
+    finds_token form.Number p c.take.new.self p.braces [] (Numeral c.in-Whole.n) (Number c.in-Whole.n) len c.take.result c.take.ensures.token c.take.ensures.place stands (omega (arith, e, c.requires)) (omega (arith, c.number_len-len.ensures.within, ap length rest)) refl
+
+pub returns-in-NotWhole-clause-refused : goal.returns-in-NotWhole-clause-refused
+returns-in-NotWhole-clause-refused c =
+    let rest = c.rest-bytes.ensures.value in
+    let len = c.number_len-len.result in
+    number_stands c.args.self.now len c.split_at.result.0.now read.NotWhole _ (c.split_at.ensures.front ∙ ap (take len) rest) (c.number_len-len.ensures.value ∙ ap number_len rest) c.in-NotWhole.ensures.reads (ap (λ n. Fails (NotWholeLiteral n)) c.at.ensures)
+
+pub returns-in-OutOfRange-clause-refused : goal.returns-in-OutOfRange-clause-refused
+returns-in-OutOfRange-clause-refused c =
+    let rest = c.rest-bytes.ensures.value in
+    let len = c.number_len-len.result in
+    number_stands c.args.self.now len c.split_at.result.0.now read.OutOfRange _ (c.split_at.ensures.front ∙ ap (take len) rest) (c.number_len-len.ensures.value ∙ ap number_len rest) c.in-OutOfRange.ensures.reads (ap (λ n. Fails (LiteralRange n)) c.at-in-OutOfRange.ensures)
+
+pub returns-in-NotNumber-clause-refused : goal.returns-in-NotNumber-clause-refused
+returns-in-NotNumber-clause-refused c =
+    let rest = c.rest-bytes.ensures.value in
+    let len = c.number_len-len.result in
+    number_stands c.args.self.now len c.split_at.result.0.now read.NotNumber _ (c.split_at.ensures.front ∙ ap (take len) rest) (c.number_len-len.ensures.value ∙ ap number_len rest) c.in-NotNumber.ensures.reads (ap (λ n. Fails (BadNumber n)) c.at-in-NotNumber.ensures)

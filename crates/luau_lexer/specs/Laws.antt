@@ -1,0 +1,35 @@
+-- Each text is read in one way.
+use Rattle.std.specs.Prelude.{◌≡◌, ℕ, ◌⊎◌, List, Result, Ok, Err}
+use Rattle.std.specs.declared.alloc.Global.{Global}
+use Rattle.std.specs.declared.vec.Vec.{Vec}
+use Rattle.syntax_tree.specs.declared.token.Token.{Token}
+use Rattle.luau_lexer.specs.declared.error.LexErr.{LexErr}
+use Rattle.luau_lexer.specs.declared.error.LexErr.TheVariants.{OutOfMemory}
+use Rattle.luau_lexer.specs.Spellings.{Spelled, Spells, HasFault}
+use Rattle.luau_lexer.specs.Tokens.{AreTokens}
+
+-- the tokens of a text, or its fault
+pub data Reading : Type 0 where
+  Tokens : List Spelled → Reading
+  Fault : LexErr → Reading
+
+abbrev pub HasReading : (bytes : List ℕ) → Reading → Type 0
+HasReading bytes (Tokens spelled) = Spells bytes spelled
+HasReading bytes (Fault fault) = HasFault bytes fault
+
+-- a text has tokens or a fault, and no others
+pub record HasOneReading (bytes : List ℕ) : Type 0 where
+  pub reading : Reading
+  pub has : HasReading bytes reading
+  pub only : (other : Reading) → HasReading bytes other → other ≡ reading
+
+-- each text has either one list of tokens or one fault
+pub record AllHaveOneReading : Type 0 where
+  pub each : (bytes : List ℕ) → HasOneReading bytes
+
+-- an answer is what a text's reading says, unless memory ran out
+abbrev pub Answers : (texts : List (List ℕ)) → Reading → Result (Vec Token Global) LexErr → Type 0
+Answers texts (Tokens spelled) (Ok tokens) = AreTokens texts spelled tokens.items
+Answers texts (Tokens spelled) (Err e) = e ≡ OutOfMemory
+Answers texts (Fault fault) (Ok tokens) = ⊥
+Answers texts (Fault fault) (Err e) = (e ≡ fault) ⊎ (e ≡ OutOfMemory)

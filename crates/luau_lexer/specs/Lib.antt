@@ -1,0 +1,9 @@
+pub mod Bytes
+pub mod Gaps
+pub mod Plain
+pub mod Strings
+pub mod Spellings
+pub mod Tokens
+pub mod Laws
+pub mod Parts
+pub mod Finding

@@ -1,0 +1,49 @@
+-- Tokens with the numbers of their texts.
+use Rattle.std.specs.Prelude.{◌≡◌, ℕ, List, [], ◌∷◌, Some, slice_get}
+use Rattle.byte_text.specs.declared.StrId.{StrId}
+use Rattle.syntax_tree.specs.declared.token.Token.{Token}
+use Rattle.syntax_tree.specs.declared.token.TokenKind.{TokenKind}
+use Rattle.syntax_tree.specs.declared.token.TokenKind.TheVariants.{Name, Number, Str, InterpBegin, InterpMid, InterpEnd, InterpWhole}
+use Rattle.luau_lexer.specs.declared.error.LexErr.{LexErr}
+use Rattle.luau_lexer.specs.declared.error.LexErr.TheVariants.{OutOfMemory}
+use Rattle.luau_lexer.specs.Plain.{Word, Fixed, Named, Numeral, Text, BeginPiece, MidPiece, EndPiece, WholePiece}
+use Rattle.luau_lexer.specs.Spellings.{Spelled, HasFault}
+
+-- a kind of token with the number of a text
+pub record IsTexted (texts : List (List ℕ)) (of : StrId → TokenKind) (text : List ℕ) (kind : TokenKind) : Type 0 where
+  pub id : StrId
+  pub is : kind ≡ of id
+  pub there : slice_get texts id.0 ≡ Some text
+
+-- the kind says what the word says, by the numbers that texts have
+abbrev pub IsKind : (texts : List (List ℕ)) → Word → TokenKind → Type 0
+IsKind texts (Fixed k) kind = kind ≡ k
+IsKind texts (Named text) kind = IsTexted texts Name text kind
+IsKind texts (Numeral n) kind = kind ≡ Number n
+IsKind texts (Text text) kind = IsTexted texts Str text kind
+IsKind texts (BeginPiece text) kind = IsTexted texts InterpBegin text kind
+IsKind texts (MidPiece text) kind = IsTexted texts InterpMid text kind
+IsKind texts (EndPiece text) kind = IsTexted texts InterpEnd text kind
+IsKind texts (WholePiece text) kind = IsTexted texts InterpWhole text kind
+
+pub record IsToken (texts : List (List ℕ)) (spelled : Spelled) (token : Token) : Type 0 where
+  pub kind : IsKind texts spelled.word token.kind
+  pub at : token.at ≡ spelled.at
+  pub «end» : token.end ≡ spelled.end
+  pub line : token.line ≡ spelled.line
+  pub last : token.last ≡ spelled.last
+
+-- the tokens are the spelled ones, one by one
+abbrev pub AreTokens : (texts : List (List ℕ)) → List Spelled → List Token → Type 0
+AreTokens texts [] [] = Unit {0}
+AreTokens texts (s ∷ ss) (t ∷ ts) = IsToken texts s t × AreTokens texts ss ts
+AreTokens texts _ _ = ⊥
+
+-- each text that has a number keeps it
+pub record Keeps (old new : List (List ℕ)) : Type 0 where
+  pub at : (i : ℕ) (text : List ℕ) → slice_get old i ≡ Some text → slice_get new i ≡ Some text
+
+-- a refusal is the text's fault; want of memory says nothing of the text
+abbrev pub IsRefusal : (bytes : List ℕ) → LexErr → Type 0
+IsRefusal bytes OutOfMemory = Unit {0}
+IsRefusal bytes fault = HasFault bytes fault
