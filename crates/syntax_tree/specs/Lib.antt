@@ -1,0 +1,14 @@
+pub mod Calls
+pub mod Derivations
+pub mod Grammar
+pub mod Nodes
+pub mod Numbers
+pub mod Operators
+pub mod Places
+pub mod Types
+pub mod Words
+pub mod Bulk
+pub mod Fold
+pub mod Lists
+pub mod Need
+pub mod Nest
