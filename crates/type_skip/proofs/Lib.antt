@@ -1,0 +1,13 @@
+pub mod Forward
+pub mod OneType
+pub mod Moved
+pub mod Symbols
+pub mod Leading
+pub mod Types
+pub mod Atoms
+pub mod GoingOn
+pub mod Lists
+pub mod Strings
+pub mod Exits
+pub mod Ends
+pub mod Passing

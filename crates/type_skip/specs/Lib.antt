@@ -1,0 +1,4 @@
+pub mod Balance
+pub mod Reading
+pub mod Refusals
+pub mod Symbols

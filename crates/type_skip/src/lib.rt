@@ -1,0 +1,13 @@
+//! Types in a text, which are passed over.
+#![tactic(auto)]
+
+mod balanced;
+mod fault;
+mod parts;
+mod skipping;
+mod tokens;
+
+pub use skipping::{TypeErr, one_type, skip_type};
+
+#[cfg(test)]
+mod tests;
