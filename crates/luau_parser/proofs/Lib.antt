@@ -1,0 +1,4 @@
+pub mod Binds
+pub mod ExampleRefusals
+pub mod ExampleTrees
+pub mod OneTree

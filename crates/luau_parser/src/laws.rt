@@ -1,0 +1,19 @@
+//! Laws of the grammar.
+
+ghost use Rattle.luau_parser.specs.Examples.{Trees, Refusals};
+ghost use Rattle.syntax_tree.specs.Derivations.{TreesAreOne};
+
+/// A token list has at most one tree.
+pub fn one_tree()
+    ensures { TreesAreOne }
+{}
+
+/// Short token lists with their trees.
+pub fn example_trees()
+    ensures { Trees }
+{}
+
+/// Short token lists without a tree.
+pub fn example_refusals()
+    ensures { Refusals }
+{}
