@@ -1,3 +1,4 @@
 pub mod Packing
 pub mod Rows
 pub mod Places
+pub mod InsnAt

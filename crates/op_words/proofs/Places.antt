@@ -112,7 +112,7 @@ first_stands word tail p insn parts f e =
 
 -- ---- at a place
 
-first_get : (words : List ℕ) (at : ℕ) → slice_get words at ≡ slice_get (drop at words) 0
+pub first_get : (words : List ℕ) (at : ℕ) → slice_get words at ≡ slice_get (drop at words) 0
 first_get [] zero = refl
 first_get [] (suc at) = refl
 first_get (w ∷ ws) zero = refl

@@ -1,5 +1,6 @@
 -- The instruction that a word stands for, and the instruction at a place.
-use Rattle.std.specs.Prelude.{◌≡◌, ◌==◌, ℕ, ◌+◌, ◌^◌, ◌<◌, ◌≤◌, ℤ, ◌&&◌, List, [], ◌∷◌, ◌++◌, length, drop, Option, Some, None, option_map, if◌then◌else◌}
+use Rattle.std.specs.Prelude.{◌≡◌, ◌==◌, ℕ, ◌+◌, ◌^◌, ◌<◌, ◌≤◌, ℤ, ◌&&◌, List, [], ◌∷◌, ◌++◌, length, drop, Option, Some, None, option_map, slice_get, ◌/◌, ◌%◌, if◌then◌else◌}
+use Rattle.std.specs.Option.{option_and_then}
 use Rattle.std.specs.Int.{w16, cast_signed, from_le_bytes}
 use Rattle.op_words.specs.declared.insn.Insn.{Insn}
 use Rattle.op_words.specs.declared.insn.Insn.TheVariants.{LoadN, LoadK, Move, GetGlobal, Call, Return, Jump, JumpBack, JumpIfEq, JumpIfLe, JumpIfLt, JumpIfNotEq, JumpIfNotLe, JumpIfNotLt, Add, Sub, Mul, PrepVarargs}
@@ -69,6 +70,22 @@ looked_up (r ∷ rs) p = if p.opcode == r.0 then made r.1 p else looked_up rs p
 
 unfoldable pub insn_of : Parts → Option Insn
 insn_of p = looked_up table p
+
+-- a word's bytes, from the low one
+abbrev pub parts_of : (word : ℕ) → (following : Option ℕ) → Parts
+parts_of word following =
+    let b = word / 2 ^ 16 % 2 ^ 8 in
+    let c = word / 2 ^ 24 % 2 ^ 8 in
+    record { opcode = word % 2 ^ 8; a = word / 2 ^ 8 % 2 ^ 8; b = b; c = c; d = signed b c; aux = following }
+
+-- an instruction with the place behind its words, which begin at a place
+abbrev pub with_next : (at : ℕ) → Insn → Insn × ℕ
+with_next at insn = (insn, at + length (encoded insn))
+
+-- the instruction at a place of the code, and the place behind its words; none where none stands there
+abbrev pub insn_at : (code : List ℕ) → (at : ℕ) → Option (Insn × ℕ)
+insn_at code at =
+    option_and_then (λ word. option_map (with_next at) (insn_of (parts_of word (slice_get code (at + 1))))) (slice_get code at)
 
 -- the instruction's words stand at the place, up to the next place
 pub record StandsAt (code : List ℕ) (at : ℕ) (insn : Insn) (next : ℕ) : Type 0 where

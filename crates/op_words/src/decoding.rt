@@ -3,7 +3,7 @@
 ghost use Rattle.std.specs.Prelude.{◌≡◌, ◌+◌, ◌<◌, ◌≤◌, ◌↔◌, ◌==◌, ◌&&◌, if◌then◌else◌, option_map, List, ℕ, [], ◌++◌, length, drop, Some, None, IsNone, IfSome, OnSome, slice_get};
 ghost use Rattle.op_words.specs.declared.insn.Insn.{Insn};
 ghost use Rattle.op_words.specs.Encoding.{encoded, IsFit};
-ghost use Rattle.op_words.specs.Decoding.{insn_of, ArePartsOf, StandsAt};
+ghost use Rattle.op_words.specs.Decoding.{insn_at, insn_of, ArePartsOf, StandsAt};
 
 use crate::insn::Insn;
 
@@ -11,6 +11,7 @@ use crate::insn::Insn;
 ///
 /// `None` exactly where no instruction stands: past the code, at another opcode, where a field that the instruction does not name is not 0, or where its second word is missing.
 pub fn decode(code: &[u32], at: usize) -> Option<(Insn, usize)>
+    ensures value { result ≡ insn_at code.now at }
     ensures read { (insn : Insn) (rest : List ℕ) → IsFit insn → drop at code.now ≡ encoded insn ++ rest
         → result ≡ Some (insn, at + length (encoded insn)) }
     ensures found { IfSome result (λ p. StandsAt code.now at p.0 p.1) }

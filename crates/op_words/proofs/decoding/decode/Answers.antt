@@ -1,6 +1,7 @@
-use Rattle.std.proofs.Common.{◌≡◌, refl, ◌+◌, ◌^◌, ◌<◌, ℕ, drop, Some, None, rules}
+use Rattle.std.proofs.Common.{◌≡◌, refl, sym, ap, ◌∙◌, option_map, ◌+◌, ◌^◌, ◌<◌, ℕ, drop, Some, None, rules}
 use Rattle.std.specs.Prelude.{slice_get, slice_index}
-use Rattle.op_words.specs.Decoding.{insn_of, ArePartsOf}
+use Rattle.op_words.specs.Decoding.{insn_of, with_next, ArePartsOf}
+use Rattle.op_words.proofs.InsnAt.{insn_at-parts}
 use Rattle.op_words.proofs.Places.{none_encoded, insn_of-encoded, stands-insn_of}
 use Rattle.op_words.proofs.decoding.decode.Goals as goal
 
@@ -37,6 +38,16 @@ returns-clause-read c = λ insn rest fit spelled.
     let read : insn_of c.new-parts.result ≡ Some c.in_ok-insn.insn = search rules in
     let some = insn_of-encoded c.args.code.now c.args.at word c.new-parts.result insn rest there parts fit spelled in
     cc
+
+pub returns-clause-value : goal.returns-clause-value
+returns-clause-value c =
+    let code = c.args.code.now in
+    let at = c.args.at in
+    let word = c.in_ok-word.word in
+    let there : slice_get code at ≡ Some word = search rules in
+    let parts : ArePartsOf word (slice_get code (at + 1)) c.new-parts.result = search rules in
+    let read : insn_of c.new-parts.result ≡ Some c.in_ok-insn.insn = search rules in
+    rw c.word_count.ensures (sym (insn_at-parts code at word c.new-parts.result there parts ∙ ap (option_map (with_next at)) read))
 
 pub returns-clause-found : goal.returns-clause-found
 returns-clause-found c =
