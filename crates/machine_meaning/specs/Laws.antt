@@ -1,0 +1,10 @@
+-- What holds of every run of code.
+use Rattle.std.specs.Prelude.{◌≡◌, ℕ, List}
+use Rattle.value_model.specs.Runs.{Report}
+use Rattle.machine_meaning.specs.declared.code.Constant.{Constant}
+use Rattle.machine_meaning.specs.Steps.{Look}
+use Rattle.machine_meaning.specs.Runs.{MachineRun}
+
+-- a run has at most one report
+abbrev pub RunsHaveOneReport : Type 0
+RunsHaveOneReport = (words : List ℕ) (ks : List Constant) (n : ℕ) (r q : Report (List ℕ) Look) → MachineRun words ks n r → MachineRun words ks n q → r ≡ q

@@ -1,0 +1,4 @@
+pub mod States
+pub mod Steps
+pub mod Runs
+pub mod Laws

@@ -1,0 +1,10 @@
+-- What holds of every run of a script.
+use Rattle.std.specs.Prelude.{◌≡◌, ℕ, List}
+use Rattle.syntax_tree.specs.declared.tree.Stat.{Stat}
+use Rattle.value_model.specs.Runs.{Report}
+use Rattle.source_meaning.specs.Steps.{Look}
+use Rattle.source_meaning.specs.Runs.{SourceRun}
+
+-- a run has at most one report
+abbrev pub RunsHaveOneReport : Type 0
+RunsHaveOneReport = (body : List Stat) (n : ℕ) (r q : Report (List ℕ) Look) → SourceRun body n r → SourceRun body n q → r ≡ q

@@ -1,0 +1,5 @@
+pub mod Levels
+pub mod States
+pub mod Steps
+pub mod Runs
+pub mod Laws
