@@ -1,0 +1,11 @@
+//! The machine: code runs from its first word, with a bound on its turns.
+#![tactic(auto)]
+
+mod machine;
+mod operations;
+mod running;
+
+pub use running::{Ran, run};
+
+#[cfg(test)]
+mod tests;
