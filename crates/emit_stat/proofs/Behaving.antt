@@ -1,0 +1,42 @@
+-- The linked code of a script does what the script does.
+use Rattle.std.proofs.Common.{ℕ, List, [], ◌∷◌, ◌++◌, length, refl}
+use Rattle.syntax_tree.specs.declared.tree.Stat.{Stat}
+use Rattle.op_words.specs.declared.insn.Insn.TheVariants as insn
+use Rattle.code_link.specs.declared.item.Item.{Item}
+use Rattle.code_link.specs.declared.item.Item.TheVariants as item
+use Rattle.code_link.specs.Labels.{place_in}
+use Rattle.code_link.specs.Linking.{IsLinked}
+use Rattle.value_model.specs.declared.end.End.TheVariants.{Ended}
+use Rattle.value_model.proofs.Together as together
+use Rattle.source_meaning.specs.States.{Done, ExecuteAll}
+use Rattle.source_meaning.specs.Runs as source
+use Rattle.machine_meaning.specs.declared.code.Constant.{Constant}
+use Rattle.machine_meaning.specs.States as machine
+use Rattle.emit_stat.specs.Fits.{AllFit}
+use Rattle.emit_stat.specs.Form.{IsBlock}
+use Rattle.emit_stat.specs.Code.{IsScriptCode}
+use Rattle.emit_stat.specs.Correct.{Behaves}
+use Rattle.emit_stat.proofs.Locals.{Locals}
+use Rattle.emit_stat.proofs.Reading.{reads, split}
+use Rattle.emit_stat.proofs.Following.{Alike, by_machine, both_end, statements_same}
+use Rattle.emit_stat.proofs.NeverStuck.{never_stuck}
+
+-- from their starts both come to one report
+alike : (ks : List Constant) (stats : List Stat) (items : List Item) (words : List ℕ) → IsScriptCode ks stats items → AllFit items → IsLinked items words → (n : ℕ) → Alike words ks (place_in items 0) n (source.start stats) machine.start
+alike ks stats _ words (IsScriptCode.script body code) fit linked n =
+    let items = item.Insn (insn.PrepVarargs 0) ∷ (body ++ item.Insn (insn.Return 0 1) ∷ []) in
+    let place = place_in items 0 in
+    let r = reads words place 0 items (length words) fit linked in
+    let p = split words place body _ _ (length words) r.1 in
+    by_machine words ks place n (ExecuteAll stats) [] [] [] 0 _ _ machine.start.registers machine.start.registers _ r.0 refl
+    (statements_same words ks place [] stats body code _ p.0 p.1 n [] []
+    (λ left le names env cells regs ls since. both_end words ks place left Done [] env cells p.0 _ regs _ Ended refl p.2.0 refl)
+    [] machine.start.registers Locals.none)
+
+pub behaves : (ks : List Constant) (stats : List Stat) (items : List Item) (words : List ℕ) → IsBlock [] stats → IsScriptCode ks stats items → AllFit items → IsLinked items words → Behaves stats words ks
+behaves ks stats items words form code fit linked = record {
+  to_code = λ n r. together.to_other _ _ _ _ _ _ _ _ _ n (source.start stats) machine.start (alike ks stats items words code fit linked n) r;
+  to_source = λ n q. together.to_one _ _ _ _ _ _ _ _ _ n (source.start stats) machine.start (alike ks stats items words code fit linked n) q;
+  ends = λ n. together.has_report _ _ _ _ _ _ _ _ _ n (source.start stats) machine.start (alike ks stats items words code fit linked n);
+  sound = never_stuck stats form;
+}

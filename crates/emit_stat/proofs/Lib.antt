@@ -1,0 +1,12 @@
+pub mod Locals
+pub mod Reading
+pub mod Following
+pub mod NeverStuck
+pub mod Behaving
+pub mod TreeForms
+pub mod ItemLists
+pub mod LabelRanges
+pub mod EmittedValues
+pub mod EmittedStatements
+pub mod EmittedBlocks
+pub mod EmittedScripts

@@ -1,0 +1,22 @@
+-- What the compiler promises.
+use Rattle.std.specs.Prelude.{◌≢◌, ℕ, List}
+use Rattle.syntax_tree.specs.declared.tree.Stat.{Stat}
+use Rattle.value_model.specs.declared.end.End.TheVariants.{Stuck}
+use Rattle.value_model.specs.Runs.{Report, Agree}
+use Rattle.source_meaning.specs.Steps as source
+use Rattle.source_meaning.specs.Runs.{SourceRun}
+use Rattle.machine_meaning.specs.declared.code.Constant.{Constant}
+use Rattle.machine_meaning.specs.Steps as machine
+use Rattle.machine_meaning.specs.Runs.{MachineRun}
+
+-- each table that is asked counts one
+abbrev pub SameRun : Report (List ℕ) source.Look → Report (List ℕ) machine.Look → Type 0
+SameRun r q = Agree (λ look. 1) (λ look. 1) r q
+
+-- with each bound on the turns, the code ends as the script does and shows the same at the same turns, and there is such an end,
+-- at which the script has not come to where it has no rule
+pub record Behaves (body : List Stat) (words : List ℕ) (ks : List Constant) : Type 0 where
+  pub to_code : (n : ℕ) (r : Report (List ℕ) source.Look) → SourceRun body n r → (q : Report (List ℕ) machine.Look) × MachineRun words ks n q × SameRun r q
+  pub to_source : (n : ℕ) (q : Report (List ℕ) machine.Look) → MachineRun words ks n q → (r : Report (List ℕ) source.Look) × SourceRun body n r × SameRun r q
+  pub ends : (n : ℕ) → (r : Report (List ℕ) source.Look) × SourceRun body n r
+  pub sound : (n : ℕ) (r : Report (List ℕ) source.Look) → SourceRun body n r → r.end ≢ Stuck

@@ -1,0 +1,6 @@
+pub mod Form
+pub mod Size
+pub mod Code
+pub mod Fits
+pub mod Correct
+pub mod Emitted

@@ -1,0 +1,73 @@
+//! The code of values.
+
+ghost use Rattle.std.specs.Prelude.{◌≡◌, ◌+◌, ◌-◌, ◌^◌, ◌<◌, ◌≤◌, length, OnOk, Some, IsSome, IfSome};
+ghost use Rattle.emit_stat.specs.Form.{operation, IsArithmetic};
+ghost use Rattle.emit_stat.specs.Size.{expr_words};
+ghost use Rattle.emit_stat.specs.Emitted.{EmitsNumber, EmitsValue};
+
+use crate::draft::{Draft, add_number, put};
+use crate::scope::Scope;
+use code_link::Item;
+use op_words::Insn;
+use resource::OutOfMemory;
+use syntax_tree::{BinOp, Expr, ExprKind};
+use whole_num::Whole;
+
+// The number as one of 16 bits, if it is small enough.
+fn small(n: Whole) -> Option<i16>
+    ensures { IfSome result (λ value. value ≡ n) }
+{
+    i16::try_from(n.get()).ok()
+}
+
+// Leaves a number in register `to`.
+#[tactic(auto, using(crate::proofs::EmittedValues::emits_small, crate::proofs::EmittedValues::emits_large))]
+fn emit_number(code: &mut Draft, to: u8, n: Whole) -> Result<(), OutOfMemory>
+    requires { length code.old.constants.items < 2 ^ 15 }
+    ensures { OnOk result (EmitsNumber to n code.old code.new) }
+{
+    if let Some(value) = small(n) {
+        put(code, Item::Insn(Insn::LoadN { to, value }))
+    } else {
+        let constant = add_number(code, n)?;
+        put(code, Item::Insn(Insn::LoadK { to, constant }))
+    }
+}
+
+/// Leaves the value of an expression in register `to`, and changes only those from there on.
+#[tactic(auto, using(crate::proofs::EmittedValues::emits_of_number, crate::proofs::EmittedValues::emits_of_name, crate::proofs::EmittedValues::emits_of_result, crate::proofs::EmittedValues::second_register))]
+pub fn emit_value(code: &mut Draft, scope: &Scope, to: u8, e: &Expr) -> Result<(), OutOfMemory>
+    requires form { IsArithmetic scope.now (256 - to) e.now }
+    requires above { length scope.now ≤ to }
+    requires room { length code.old.constants.items + expr_words e.now ≤ 2 ^ 15 }
+    ensures { OnOk result (EmitsValue scope.now to e.now code.old code.new) }
+{
+    match &e.kind {
+        ExprKind::Num(n) => emit_number(code, to, *n),
+        ExprKind::Name(name) => {
+            let from = scope.register_of(*name).unwrap() as u8;
+            put(code, Item::Insn(Insn::Move { to, from }))
+        }
+        ExprKind::Binary { op, a, b } => {
+            emit_value(code, scope, to, a.get())?;
+            emit_value(code, scope, to + 1, b.get())?;
+            put(code, Item::Insn(operation(*op, to)))
+        }
+        _ => unreachable!(),
+    }
+}
+
+// The instruction of an operation on register `to` and the one behind it.
+fn operation(op: BinOp, to: u8) -> Insn
+    requires of_the_form { IsSome (operation op 0 0 0) }
+    requires room { to < 255 }
+    ensures { operation op to to (to + 1) ≡ Some result }
+{
+    let (left, right) = (to, to + 1);
+    match op {
+        BinOp::Add => Insn::Add { to, left, right },
+        BinOp::Sub => Insn::Sub { to, left, right },
+        BinOp::Mul => Insn::Mul { to, left, right },
+        _ => unreachable!(),
+    }
+}
