@@ -1,0 +1,14 @@
+pub mod Spellings
+pub mod Lexemes
+pub mod FirstWords
+pub mod NextTokens
+pub mod SumTokens
+pub mod SumTrees
+pub mod Refused
+pub mod TokenSteps
+pub mod OpenStatements
+pub mod OpenBlocks
+pub mod BuiltBlocks
+pub mod ScriptSteps
+pub mod ReadingSteps
+pub mod WalkAccepts

@@ -1,0 +1,10 @@
+pub mod Tokens
+pub mod Lexing
+pub mod Scanning
+pub mod Grammar
+pub mod Refusal
+pub mod Blocks
+pub mod Walk
+pub mod Sums
+pub mod Script
+pub mod Reading
