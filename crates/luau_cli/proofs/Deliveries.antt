@@ -1,10 +1,10 @@
 -- How an answer was delivered, from what the two writes left.
-use Rattle.std.proofs.Common.{◌≡◌, ◌∙◌, ℕ, ◌<◌, ◌≤◌, ◌⊎◌, ⊎_elim, List, [], length, take, Option, Some, None, Result, Ok, Err, sym, ap, subst, arith, rules}
+use Rattle.std.proofs.Common.{◌≡◌, ◌∙◌, ℕ, ◌<◌, ◌≤◌, ◌⊎◌, inl, inr, ⊎_elim, List, [], length, take, Option, Some, None, Result, Ok, Err, sym, ap, subst, arith, rules}
 use Rattle.std.specs.Prelude.{◌++◌}
 use Rattle.std.proofs.Common.{append-nil}
 use Rattle.resource.specs.Faults.{Rose}
 use Rattle.outside_io.specs.Sinks.{appended}
-use Rattle.luau_cli.specs.Answer.{Answer}
+use Rattle.luau_cli.specs.Answer.{Answer, HasRun, HasRefused, IsProper}
 use Rattle.luau_cli.specs.Delivery.{Change, IsUntouched, Gains, GainsFront, Delivers, whole, no_output, no_report, refused}
 
 -- a sink that gained nothing tells what it told before
@@ -23,3 +23,37 @@ gains_front c put bytes e front rose =
 -- a sink that gained no bytes is as it was
 pub untouched : (c : Change) (bytes : List ℕ) → bytes ≡ [] → Gains c bytes → IsUntouched c
 untouched c bytes e g = (g.0 ∙ (ap (λ b. appended c.old b) e ∙ appended_nothing c.old), g.1)
+
+-- ---- the statuses
+
+-- a script that ran was not refused
+pub apart : (status : ℕ) → HasRun status → HasRefused status → ⊥
+apart status (inl few) r = let no : (status ≡ 2) ⊎ (status ≡ 3) ⊎ (status ≡ 4) ⊎ (status ≡ 10) = r in omega (arith, few, no)
+apart status (inr spent) r = let no : (status ≡ 2) ⊎ (status ≡ 3) ⊎ (status ≡ 4) ⊎ (status ≡ 10) = r in omega (arith, spent, no)
+
+-- its file was read
+pub not_unread : (status : ℕ) → HasRun status → status ≡ 4 → ⊥
+not_unread status (inl few) e = omega (arith, few, e)
+not_unread status (inr spent) e = omega (arith, spent, e)
+
+fault_not_ran : HasRun 5 → ⊥
+fault_not_ran (inl few) = omega (arith, few)
+fault_not_ran (inr spent) = omega (arith, spent)
+
+fault_not_refused : HasRefused 5 → ⊥
+fault_not_refused r = let no : (5 ≡ 2) ⊎ (5 ≡ 3) ⊎ (5 ≡ 4) ⊎ (5 ≡ 10) = r in omega (arith, no)
+
+-- with the status of a script that ran no write failed, and the answer has that status
+pub ran_quiet : (a : Answer) (out report : Change) (status : ℕ) → Delivers a out report status → HasRun status → HasRun a.status × (out.now ≡ out.before) × (report.now ≡ report.before)
+ran_quiet a out report _ (whole x y) ran = (ran, x.1, y.1)
+ran_quiet a out report _ (no_output r x y) ran = absurd (fault_not_ran ran)
+ran_quiet a out report _ (no_report r x y) ran = absurd (fault_not_ran ran)
+ran_quiet a out report _ (refused r x y) ran = absurd (apart a.status ran r)
+
+-- with the status of a refusal nothing was written to the output
+pub refused_untouched : (a : Answer) (out report : Change) (status : ℕ) → IsProper a → Delivers a out report status → HasRefused status → IsUntouched out
+refused_untouched a out report _ proper (whole x y) r =
+    ⊎_elim (λ ran. absurd (apart a.status ran r)) (λ q. untouched out a.output q.1 x) proper
+refused_untouched a out report _ proper (no_output q x y) r = absurd (fault_not_refused r)
+refused_untouched a out report _ proper (no_report q x y) r = absurd (fault_not_refused r)
+refused_untouched a out report _ proper (refused q x y) r = x

@@ -1,38 +1,52 @@
--- From the tree, the code and the run to the answer.
-use Rattle.std.proofs.Common.{◌≡◌, ◌∙◌, ℕ, ℤ, List, [], ◌∷◌, ◌++◌, Result, Ok, Err, IfOk, sym, ap, subst, codes}
+-- From the code and its run to the answer.
+use Rattle.std.proofs.Common.{◌≡◌, ◌≢◌, ◌∙◌, ℕ, List, [], ◌∷◌, ◌++◌, Result, Ok, Err, IfOk, refl, sym, ap, subst, codes}
 use Rattle.std.specs.Fmt.{decimal}
 use Rattle.resource.specs.declared.memory.OutOfMemory.{OutOfMemory}
 use Rattle.syntax_tree.specs.declared.tree.Stat.{Stat}
-use Rattle.op_words.specs.declared.insn.Insn.{Insn}
-use Rattle.luau_cli.specs.declared.code.Code.{Code}
-use Rattle.luau_cli.specs.declared.machine.Ran.{Ran}
+use Rattle.value_model.specs.declared.end.End.{End}
+use Rattle.value_model.specs.declared.end.End.TheVariants.{Ended, Stopped, Unfinished, Stuck}
+use Rattle.value_model.specs.Runs.{Report}
+use Rattle.script_reader.specs.Grammar.{IsScript}
+use Rattle.script_reader.specs.Refusal.{IsRefusedAt}
+use Rattle.machine_meaning.specs.declared.code.Code.{Code}
+use Rattle.machine_meaning.specs.Steps.{Look}
+use Rattle.machine_meaning.specs.Runs.{MachineRun}
+use Rattle.emit_stat.specs.Correct.{Behaves}
+use Rattle.luau_vm.specs.declared.running.Ran.{Ran}
+use Rattle.luau_vm.specs.Shown.{Shows, line_of, lines_of}
 use Rattle.luau_cli.specs.declared.reply.Reply.{Reply}
-use Rattle.luau_cli.specs.Grammar.{IsScript}
-use Rattle.luau_cli.specs.Refusal.{IsRefusedAt}
-use Rattle.luau_cli.specs.Meaning.{End, Runs}
-use Rattle.luau_cli.specs.Words.{AreWordsOf}
-use Rattle.luau_cli.specs.Machine.{exec, at_first}
-use Rattle.luau_cli.specs.Compiled.{IsCompilable, Behaves, Shows, finish_of}
-use Rattle.luau_cli.specs.Answer.{Answer, refusal, line_of, lines_of, end_status, end_text, AnswersScript, refused, runs}
+use Rattle.luau_cli.specs.Answer.{Answer, refusal, IsReported, AnswersScript, refused, runs}
 use Rattle.luau_cli.specs.Making.{answer_of}
 
-pub compilable : (bytes : List ℕ) (stats : List Stat) → IsScript bytes stats → IsCompilable stats
-compilable bytes stats s = record { tokens = s.tokens; names = s.names; block = s.block; few = s.few }
+-- what the machine made of a script's code
+abbrev pub HasRunTo : Code → (turns : ℕ) → Ran → Type 0
+HasRunTo code turns ran =
+    (q : Report (List ℕ) Look) × MachineRun code.words.items code.constants.items turns q × Shows ran q
 
--- the machine ends as the script does
-pub ends_so : (stats : List Stat) (code : Code) (ran : Ran) → Behaves stats code → ((insns : List Insn) → AreWordsOf insns code.words.items → Shows ran (exec code.constants.items insns at_first)) → (end : End) × (ran.finish ≡ finish_of end)
-ends_so stats code ran b shows =
-    let s = shows b.insns b.words in (b.end, s.finish ∙ ap (λ t. t.finish) b.target)
+-- every end but being stuck is reported
+reported_end : (e : End) → e ≢ Stuck → (status : ℕ) × (text : List ℕ) × IsReported e status text
+reported_end Ended ne = (0, codes "1 ended", IsReported.ended)
+reported_end (Stopped stop) ne = (1, _, IsReported.stopped stop)
+reported_end Unfinished ne = (7, codes "1 turns spent", IsReported.spent)
+reported_end Stuck ne = absurd (ne refl)
 
-pub answers_run : (bytes : List ℕ) (stats : List Stat) (code : Code) (ran : Ran) (r : Result Reply OutOfMemory) → IsScript bytes stats → Behaves stats code → ((insns : List Insn) → AreWordsOf insns code.words.items → Shows ran (exec code.constants.items insns at_first)) → IfOk r (λ m. (end : End) → ran.finish ≡ finish_of end → answer_of m ≡ record { status = end_status end; output = ran.output.items; report = line_of (end_text end) }) → IfOk r (λ m. AnswersScript bytes (answer_of m))
-answers_run bytes stats code ran (Ok m) script b shows made =
-    let s = shows b.insns b.words in
-    let output = s.output ∙ ap (λ t. lines_of t.printed) b.target in
-    let is = made b.end (s.finish ∙ ap (λ t. t.finish) b.target) ∙ ap (λ o. record { status = end_status b.end; output = o; report = line_of (end_text b.end) }) output in
-    subst (λ a. AnswersScript bytes a) (sym is) (runs stats b.printed b.end script b.source)
-answers_run bytes stats code ran (Err e) script b shows made = tt
+-- the run of a script's code is over as its source is, which is never stuck
+pub reported : (stats : List Stat) (code : Code) (turns : ℕ) (ran : Ran) → Behaves stats code.words.items code.constants.items → HasRunTo code turns ran → (status : ℕ) × (text : List ℕ) × IsReported ran.end status text
+reported stats code turns ran b run =
+    let source = b.to_source turns run.0 run.1 in
+    let same : ran.end ≡ source.0.end = run.2.end ∙ sym source.2.end in
+    reported_end ran.end (λ stuck. b.sound turns source.0 source.1 (sym same ∙ stuck))
 
-pub answers_refusal : (bytes : List ℕ) (place : ℕ) (text : List ℕ) (r : Result Reply OutOfMemory) → IsRefusedAt bytes place → text ≡ decimal place → IfOk r (λ m. answer_of m ≡ refusal 3 (codes "1 refused: NotBuilt 60 at " ++ text)) → IfOk r (λ m. AnswersScript bytes (answer_of m))
-answers_refusal bytes place text (Ok m) at is made =
-    subst (λ a. AnswersScript bytes a) (sym (made ∙ ap (λ t. refusal 3 (codes "1 refused: NotBuilt 60 at " ++ t)) is)) (refused place at)
-answers_refusal bytes place text (Err e) at is made = tt
+pub answers_run : (bytes : List ℕ) (stats : List Stat) (code : Code) (turns : ℕ) (ran : Ran) (m : Result Reply OutOfMemory) → IsScript bytes stats → Behaves stats code.words.items code.constants.items → HasRunTo code turns ran → IfOk m (λ reply. (status : ℕ) × (text : List ℕ) × IsReported ran.end status text × (answer_of reply ≡ record { status = status; output = ran.output.items; report = line_of text })) → IfOk m (λ reply. AnswersScript bytes turns (answer_of reply))
+answers_run bytes stats code turns ran (Ok reply) script b run made =
+    let source = b.to_source turns run.0 run.1 in
+    let end : ran.end ≡ source.0.end = run.2.end ∙ sym source.2.end in
+    let output : ran.output.items ≡ lines_of source.0.events = run.2.output ∙ ap lines_of (sym source.2.events) in
+    let is : answer_of reply ≡ record { status = made.0; output = lines_of source.0.events; report = line_of made.1 } = made.3 ∙ ap (λ (o : List ℕ). record { status = made.0; output = o; report = line_of made.1 }) output in
+    subst (λ a. AnswersScript bytes turns a) (sym is) (runs stats source.0 made.0 made.1 script source.1 (subst (λ e. IsReported e made.0 made.1) end made.2))
+answers_run bytes stats code turns ran (Err e) script b run made = tt
+
+pub answers_refusal : (bytes : List ℕ) (turns place : ℕ) (text : List ℕ) (r : Result Reply OutOfMemory) → IsRefusedAt bytes place → text ≡ decimal place → IfOk r (λ m. answer_of m ≡ refusal 3 (codes "1 refused: NotBuilt 60 at " ++ text)) → IfOk r (λ m. AnswersScript bytes turns (answer_of m))
+answers_refusal bytes turns place text (Ok m) at is made =
+    subst (λ a. AnswersScript bytes turns a) (sym (made ∙ ap (λ t. refusal 3 (codes "1 refused: NotBuilt 60 at " ++ t)) is)) (refused place at)
+answers_refusal bytes turns place text (Err e) at is made = tt

@@ -1,20 +1,12 @@
 //! The command line of the Luau compiler and sandbox.
 #![tactic(auto)]
 
-mod code;
-mod compile;
-mod lexer;
-mod machine;
 mod outcome;
-mod reader;
 mod reply;
-mod scope;
-mod script;
-mod sums;
 #[cfg(test)]
 mod tests;
 mod top;
-mod walk;
+mod words;
 
 use outside_io::{OsFiles, OsSink};
 use std::process::ExitCode;
@@ -29,7 +21,7 @@ fn main(rt: HostRuntime) -> ExitCode {
         return ExitCode::from(OUT_OF_MEMORY);
     };
     let mut files = OsFiles::new(files);
-    let status = match words(&rt) {
+    let status = match words_given(&rt) {
         Ok(words) => top(
             rt.alloc(),
             words.as_slice(),
@@ -44,6 +36,6 @@ fn main(rt: HostRuntime) -> ExitCode {
 }
 
 /// The words after the program's name. They fail as a whole where one is not UTF-8.
-fn words(rt: &(impl Env + AllocGlobal)) -> io::Result<Vec<String>> {
+fn words_given(rt: &(impl Env + AllocGlobal)) -> io::Result<Vec<String>> {
     Ok(env::args(rt)?.skip(1).collect(rt.alloc())?)
 }

@@ -1,18 +1,19 @@
 //! The reply to one script.
 
-ghost use Rattle.std.specs.Prelude.{◌≡◌, IfOk};
-ghost use Rattle.luau_cli.specs.Meaning.{End};
-ghost use Rattle.luau_cli.specs.Answer.{AnswersScript, IsProper, Answer, end_status, end_text, line_of};
-ghost use Rattle.luau_cli.specs.Compiled.{finish_of};
+ghost use Rattle.std.specs.Prelude.{◌≡◌, ℕ, List, IfOk};
+ghost use Rattle.value_model.specs.declared.end.End.{End};
+ghost use Rattle.luau_vm.specs.Shown.{line_of};
+ghost use Rattle.luau_cli.specs.Answer.{AnswersScript, IsProper, IsReported};
 ghost use Rattle.luau_cli.specs.Making.{answer_of};
 
-use crate::compile::compile;
-use crate::machine::{Finish, Ran, run};
-use crate::reader::{Reading, read};
-use crate::reply::{Reply, line};
+use crate::reply::{Reply, SPENT, line};
 use byte_text::Interner;
+use emit_stat::compile;
+use luau_vm::{Ran, run};
 use resource::OutOfMemory;
+use script_reader::{Reading, read};
 use std::alloc::Global;
+use value_model::End;
 
 const ENDED: u8 = 0;
 
@@ -20,9 +21,9 @@ const STOPPED: u8 = 1;
 
 const REFUSED: u8 = 3;
 
-/// What a script answers: where it is refused, or what it prints and how it ends.
-pub fn reply_to_script(alloc: Global, source: &[u8]) -> Result<Reply, OutOfMemory>
-    ensures answers { IfOk result (λ r. AnswersScript source.now (answer_of r)) }
+/// What a script answers: where it is refused, or what its run prints with so many turns and how it ends.
+pub fn reply_to_script(alloc: Global, source: &[u8], turns: u32) -> Result<Reply, OutOfMemory>
+    ensures answers { IfOk result (λ r. AnswersScript source.now turns (answer_of r)) }
     ensures proper { IfOk result (λ r. IsProper (answer_of r)) }
 {
     let mut names = Interner::new(alloc);
@@ -38,7 +39,7 @@ pub fn reply_to_script(alloc: Global, source: &[u8]) -> Result<Reply, OutOfMemor
         }
         Reading::Script(tree) => {
             let code = compile(alloc, tree.main.body.as_slice())?;
-            let ran = run(alloc, &code)?;
+            let ran = run(alloc, &code, turns)?;
             reply_to_run(alloc, ran)
         }
     }
@@ -46,18 +47,20 @@ pub fn reply_to_script(alloc: Global, source: &[u8]) -> Result<Reply, OutOfMemor
 
 /// The reply to a script that ran.
 fn reply_to_run(alloc: Global, ran: Ran) -> Result<Reply, OutOfMemory>
-    requires { (end : End) × (ran.finish ≡ finish_of end) }
-    ensures answers { IfOk result (λ r. (end : End) → ran.finish ≡ finish_of end → answer_of r ≡ record { status = end_status end; output = ran.output.items; report = line_of (end_text end) }) }
+    requires { (status : ℕ) × (text : List ℕ) × IsReported ran.end status text }
+    ensures answers { IfOk result (λ r. (status : ℕ) × (text : List ℕ) × IsReported ran.end status text
+        × (answer_of r ≡ record { status = status; output = ran.output.items; report = line_of text })) }
     ensures proper { IfOk result (λ r. IsProper (answer_of r)) }
 {
-    let Ran { output, finish } = ran;
-    let (status, report) = match finish {
-        Finish::Ended => (ENDED, line(alloc, b"1 ended", b"")?),
-        Finish::Stopped(stop) => {
+    let Ran { output, end } = ran;
+    let (status, report) = match end {
+        End::Ended => (ENDED, line(alloc, b"1 ended", b"")?),
+        End::Stopped(stop) => {
             let stop = format!(in alloc; "{stop}")?;
             (STOPPED, line(alloc, b"1 stopped: ", stop.as_bytes())?)
         }
-        Finish::Stuck => unreachable!(),
+        End::Unfinished => (SPENT, line(alloc, b"1 turns spent", b"")?),
+        End::Stuck => unreachable!(),
     };
     Ok(Reply {
         status,

@@ -1,9 +1,8 @@
 //! Answers: what is written, and with which status the program ends.
 
-ghost use Rattle.std.specs.Prelude.{◌≡◌, ◌≤◌, ◌⊎◌, ◌++◌, ◌∷◌, [], IfOk, codes};
-ghost use Rattle.std.specs.Fmt.{decimal};
-ghost use Rattle.outside_io.specs.Sinks.{appended};
-ghost use Rattle.luau_cli.specs.Answer.{refusal, line_of};
+ghost use Rattle.std.specs.Prelude.{◌≡◌, ◌⊎◌, ◌↔◌, ◌++◌, [], IfOk, IsTrue};
+ghost use Rattle.luau_vm.specs.Shown.{line_of};
+ghost use Rattle.luau_cli.specs.Answer.{refusal, HasRun, HasRefused};
 ghost use Rattle.luau_cli.specs.Delivery.{Delivers, change};
 ghost use Rattle.luau_cli.specs.Making.{answer_of};
 
@@ -13,6 +12,9 @@ use std::alloc::Global;
 
 /// The status where a write failed.
 pub const WRITE_FAULT: u8 = 5;
+
+/// The status where a script's turns are spent.
+pub const SPENT: u8 = 7;
 
 /// A status, and the bytes for the output and the report.
 #[derive(Drop)]
@@ -44,7 +46,7 @@ impl Reply {
     ///
     /// Behind a failed write nothing more is written.
     pub fn deliver<O: Sink, E: Sink>(&self, out: &mut O, report: &mut E) -> u8
-        requires { self.now.status ≤ 1 ⊎ (self.now.output.items ≡ []) }
+        requires { HasRun self.now.status ⊎ (HasRefused self.now.status × (self.now.output.items ≡ [])) }
         ensures { Delivers (answer_of self.now)
             (change (O.bytes out.old) (O.bytes out.new) (O.faults out.old) (O.faults out.new))
             (change (E.bytes report.old) (E.bytes report.new) (E.faults report.old) (E.faults report.new))
@@ -56,9 +58,16 @@ impl Reply {
         }
         match put_all(report, self.report.as_slice()) {
             Ok(()) => self.status,
-            Err(WriteErr::WriteFault) if self.status <= 1 => WRITE_FAULT,
+            Err(WriteErr::WriteFault) if self.has_run() => WRITE_FAULT,
             Err(WriteErr::WriteFault) => self.status,
         }
+    }
+
+    /// Whether the status is that of a script that ran.
+    fn has_run(&self) -> bool
+        ensures { IsTrue result ↔ HasRun self.now.status }
+    {
+        self.status <= 1 || self.status == SPENT
     }
 }
 

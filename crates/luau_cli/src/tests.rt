@@ -101,9 +101,102 @@ fn scripts_print_and_end(rt: HostRuntime) -> Result<(), Fail> {
 }
 
 #[test]
+fn branches_and_loops_run(rt: HostRuntime) -> Result<(), Fail> {
+    let rows: [(&[u8], &[u8]); 9] = [
+        (
+            b"local a = 1 if 1 == 1 then local a = 2 print(a) end print(a)",
+            b"2\n1\n",
+        ),
+        (
+            b"local a = 1 local b = a a = a + b * 2 b = 7 - a print(a) print(b)",
+            b"3\n4\n",
+        ),
+        (
+            b"if 1 == 1 then print(1) else print(2) end if 1 == 2 then print(3) else print(4) end",
+            b"1\n4\n",
+        ),
+        (
+            b"if 1 ~= 1 then print(1) else print(2) end if 1 ~= 2 then print(3) else print(4) end",
+            b"2\n3\n",
+        ),
+        (
+            b"if 1 < 2 then print(1) end if 2 < 2 then print(2) end if 2 > 1 then print(3) end if 2 > 2 then print(4) end",
+            b"1\n3\n",
+        ),
+        (
+            b"if 2 <= 2 then print(1) end if 3 <= 2 then print(2) end if 2 >= 2 then print(3) end if 2 >= 3 then print(4) end",
+            b"1\n3\n",
+        ),
+        (
+            b"local i = 0 while i < 3 do i = i + 1 if i == 2 then print(20) else print(i) end end",
+            b"1\n20\n3\n",
+        ),
+        (
+            b"local i = 3 while i > 0 do local j = i while j > 0 do local k = i * j print(k) j = j - 1 end i = i - 1 end print(i)",
+            b"9\n6\n3\n4\n2\n1\n0\n",
+        ),
+        (
+            b"while 1 == 2 do print(1) end if 0 - 1 < 0 then end print(2)",
+            b"2\n",
+        ),
+    ];
+    for (script, output) in rows {
+        let wanted = Wanted {
+            status: 0,
+            output,
+            report: ENDED,
+        };
+        expect_run(&rt, script, &wanted)?;
+    }
+    Ok(())
+}
+
+#[test]
+fn turns_are_bounded(rt: HostRuntime) -> Result<(), Fail> {
+    let counting: &[u8] =
+        b"local i = 0 while i < 3 do i = i + 1 if i == 2 then print(20) else print(i) end end";
+    let forever: &[u8] = b"print(1) while 1 == 1 do end print(2)";
+    let spent: &[u8] = b"1 turns spent\n";
+    let rows: [(&str, &[u8], u8, &[u8], &[u8]); 8] = [
+        ("0", counting, 7, b"1\n", spent),
+        ("1", counting, 7, b"1\n20\n", spent),
+        ("2", counting, 7, b"1\n20\n3\n", spent),
+        ("3", counting, 0, b"1\n20\n3\n", ENDED),
+        ("0000000003", counting, 0, b"1\n20\n3\n", ENDED),
+        ("4294967295", counting, 0, b"1\n20\n3\n", ENDED),
+        ("1000", forever, 7, b"1\n", spent),
+        ("0", b"print(1)", 0, b"1\n", ENDED),
+    ];
+    for (turns, script, status, output, report) in rows {
+        let given = Given {
+            words: &["run", "--turns", turns, "a"],
+            script,
+            failing_reads: &[],
+            failing_outputs: &[],
+            failing_reports: &[],
+        };
+        let wanted = Wanted {
+            status,
+            output,
+            report,
+        };
+        expect(&rt, &given, &wanted)?;
+    }
+    Ok(())
+}
+
+#[test]
 fn scripts_stop_out_of_range(rt: HostRuntime) -> Result<(), Fail> {
-    let rows: [(&[u8], &[u8]); 3] = [
+    let rows: [(&[u8], &[u8]); 5] = [
         (b"print(999999999999999 * 10)", b""),
+        (
+            b"local a = 999999999999999 print(1) if a * 10 == 0 then print(2) else print(3) end",
+            b"1\n",
+        ),
+        (
+            b"local a = 999999999999999 print(1) while 0 < a * 10 do print(2) end",
+            b"1\n",
+        ),
         (
             b"print(1) local a = 999999999999999 * 9 print(a) print(a + a) print(3)",
             b"1\n8999999999999991\n",
@@ -126,8 +219,11 @@ fn scripts_stop_out_of_range(rt: HostRuntime) -> Result<(), Fail> {
 
 #[test]
 fn other_texts_are_refused(rt: HostRuntime) -> Result<(), Fail> {
-    let rows: [(&[u8], usize); 3] = [
+    let rows: [(&[u8], usize); 6] = [
         (b"print(x)", 6),
+        (b"a = 1", 0),
+        (b"if 1 == 1 then local a = 1 end print(a)", 37),
+        (b"while 1 == 1 do print(1)", 24),
         (b"local a = ", 10),
         (b"print(1) print(2.5)", 15),
     ];
@@ -144,7 +240,7 @@ fn other_texts_are_refused(rt: HostRuntime) -> Result<(), Fail> {
 }
 
 #[test]
-fn limits_are_kept(rt: HostRuntime) -> Result<(), Fail> {
+fn locals_are_limited(rt: HostRuntime) -> Result<(), Fail> {
     let alloc = rt.alloc();
     let mut locals = Vec::new(alloc);
     for _ in 0..200 {
@@ -164,6 +260,50 @@ fn limits_are_kept(rt: HostRuntime) -> Result<(), Fail> {
     };
     expect_run(&rt, locals.as_slice(), &wanted)?;
 
+    // A block's locals are gone at its end.
+    let mut blocks = Vec::new(alloc);
+    for _ in 0..199 {
+        blocks.extend_from_slice(b"local a = 1\n")?;
+    }
+    blocks.extend_from_slice(b"if a == 1 then local b = 2 else local c = 3 end local d = 4\n")?;
+    let wanted = Wanted {
+        status: 0,
+        output: b"",
+        report: ENDED,
+    };
+    expect_run(&rt, blocks.as_slice(), &wanted)
+}
+
+#[test]
+fn open_blocks_are_limited(rt: HostRuntime) -> Result<(), Fail> {
+    let alloc = rt.alloc();
+    let mut nested = Vec::new(alloc);
+    for _ in 0..100 {
+        nested.extend_from_slice(b"if 1 == 1 then ")?;
+    }
+    let mut deeper = nested.clone()?;
+    nested.extend_from_slice(b"print(1)")?;
+    for _ in 0..100 {
+        nested.extend_from_slice(b" end")?;
+    }
+    let wanted = Wanted {
+        status: 0,
+        output: b"1\n",
+        report: ENDED,
+    };
+    expect_run(&rt, nested.as_slice(), &wanted)?;
+    deeper.extend_from_slice(b"while 1 == 1 do")?;
+    let wanted = Wanted {
+        status: 3,
+        output: b"",
+        report: b"1 refused: NotBuilt 60 at 1500\n",
+    };
+    expect_run(&rt, deeper.as_slice(), &wanted)
+}
+
+#[test]
+fn tokens_are_limited(rt: HostRuntime) -> Result<(), Fail> {
+    let alloc = rt.alloc();
     let mut sum = Vec::from_slice(alloc, b"print(0")?;
     for _ in 0..7498 {
         sum.extend_from_slice(b"+2")?;
@@ -191,8 +331,15 @@ fn words_and_files_are_refused(rt: HostRuntime) -> Result<(), Fail> {
     let small: &[u8] = b"print(1)";
     let spaces = vec![in alloc; b' '; 1_048_576]?;
     let more = vec![in alloc; b' '; 1_048_577]?;
-    let rows: [(&[&str], &[u8], u8, &[u8]); 8] = [
+    let rows: [(&[&str], &[u8], u8, &[u8]); 15] = [
         (&[], small, 2, usage),
+        (&["run", "--turns", "1"], small, 2, usage),
+        (&["run", "--turns", "", "a"], small, 2, usage),
+        (&["run", "--turns", "+1", "a"], small, 2, usage),
+        (&["run", "--turns", "1x", "a"], small, 2, usage),
+        (&["run", "--turns", "00000000001", "a"], small, 2, usage),
+        (&["run", "--turns", "4294967296", "a"], small, 2, usage),
+        (&["run", "--bound", "1", "a"], small, 2, usage),
         (&["run"], small, 2, usage),
         (&["fly", "a"], small, 2, usage),
         (&["run", "a", "a"], small, 2, usage),

@@ -2,13 +2,15 @@
 
 ghost use Rattle.std.specs.Prelude.{◌≡◌, ◌≢◌, ◌≤◌, ℕ, List, ◌⊎◌, ◌↔◌, ◌∷◌, [], Some, length, map, string_bytes, codes, IfOk, IfSome, MatchOption, ◌<◌};
 ghost use Rattle.resource.specs.Faults.{Rose};
-ghost use Rattle.luau_cli.specs.Answer.{Answer, Answers, AnswersFile, RunFile, RunsScript, IsProper};
+ghost use Rattle.luau_cli.specs.Answer.{Answer, Answers, AnswersFile, RunsScript, IsProper, HasRun, HasRefused};
+ghost use Rattle.luau_cli.specs.Command.{RunFile};
 ghost use Rattle.luau_cli.specs.Delivery.{Delivers, change};
 ghost use Rattle.luau_cli.specs.Making.{answer_of};
 ghost use Rattle.syntax_tree.specs.declared.tree.Stat.{Stat};
 
 use crate::outcome::reply_to_script;
 use crate::reply::Reply;
+use crate::words::read_command;
 use outside_io::{Files, ReadErr, Sink, put_all, read_all};
 use resource::OutOfMemory;
 use std::alloc::Global;
@@ -35,7 +37,7 @@ pub fn top<F: Files, O: Sink, E: Sink>(
     report: &mut E,
 ) -> u8
     // The statuses.
-    ensures statuses { (result ≤ 6) ⊎ (result ≡ 10) }
+    ensures statuses { (result ≤ 7) ⊎ (result ≡ 10) }
 
     // What is written and with which status, but for want of memory.
     ensures answer { IfSome (F.contents files.old) (λ told. result ≢ 6 →
@@ -51,49 +53,42 @@ pub fn top<F: Files, O: Sink, E: Sink>(
         → (Rose (F.faults files.old) (F.faults files.new) → ⊥)
         → (Rose (O.faults out.old) (O.faults out.new) → ⊥)
         → (Rose (E.faults report.old) (E.faults report.new) → ⊥)
-        → (result ≤ 1) ⊎ (result ≡ 6)) }
+        → HasRun result ⊎ (result ≡ 6)) }
 
     // What holds whatever the files and sinks tell.
-    ensures other_words { (result ≡ 2) ↔ ((file : List ℕ) → RunFile (map string_bytes words.entry.now) file → ⊥) }
+    ensures other_words { (result ≡ 2) ↔ ((turns : ℕ) (file : List ℕ) → RunFile (map string_bytes words.entry.now) turns file → ⊥) }
     ensures read_fault { F.faults files.new ≢ F.faults files.old → (result ≡ 4) ⊎ (result ≡ 6) }
     ensures write_fault { result ≡ 5 → Rose (O.faults out.old) (O.faults out.new) ⊎ Rose (E.faults report.old) (E.faults report.new) }
-    ensures ended { result ≤ 1 → (F.faults files.new ≡ F.faults files.old) × (O.faults out.new ≡ O.faults out.old) × (E.faults report.new ≡ E.faults report.old) }
-    ensures refused { 1 < result → result ≢ 5 → result ≢ 6 → (O.bytes out.new ≡ O.bytes out.old) × (O.faults out.new ≡ O.faults out.old) }
+    ensures ended { HasRun result → (F.faults files.new ≡ F.faults files.old) × (O.faults out.new ≡ O.faults out.old) × (E.faults report.new ≡ E.faults report.old) }
+    ensures refused { HasRefused result → (O.bytes out.new ≡ O.bytes out.old) × (O.faults out.new ≡ O.faults out.old) }
     ensures contents { F.contents files.new ≡ F.contents files.old }
 {
-    let Some(file) = file_of(words) else {
+    let Some(command) = read_command(words) else {
         let _ = put_all(report, USAGE);
         return BAD_WORDS;
     };
-    match reply_for(alloc, file, files) {
+    match reply_for(alloc, command.file, command.turns, files) {
         Ok(reply) => reply.deliver(out, report),
         Err(OutOfMemory) => OUT_OF_MEMORY,
     }
 }
 
-/// The file that is to be run, where the words are `run` and its name.
-fn file_of(words: &[String]) -> Option<&str>
-    ensures { MatchOption result
-        ((file : List ℕ) → RunFile (map string_bytes words.now) file → ⊥)
-        (λ file. RunFile (map string_bytes words.now) file.now) }
-{
-    match words {
-        [mode, file] if mode.as_str() == "run" => Some(file.as_str()),
-        _ => None,
-    }
-}
-
 /// The reply for a file.
-fn reply_for<F: Files>(alloc: Global, file: &str, files: &mut F) -> Result<Reply, OutOfMemory>
+fn reply_for<F: Files>(
+    alloc: Global,
+    file: &str,
+    turns: u32,
+    files: &mut F,
+) -> Result<Reply, OutOfMemory>
     ensures told { IfSome (F.contents files.old) (λ told.
-        IfOk result (λ r. AnswersFile file.now (F.faults files.old) (F.faults files.new) (told file.now) (answer_of r))) }
+        IfOk result (λ r. AnswersFile file.now turns (F.faults files.old) (F.faults files.new) (told file.now) (answer_of r))) }
     ensures proper { IfOk result (λ r. IsProper (answer_of r)) }
     ensures quiet { IfOk result (λ r. r.status ≢ 4 → F.faults files.new ≡ F.faults files.old) }
     ensures fault { F.faults files.new ≢ F.faults files.old → IfOk result (λ r. r.status ≡ 4) }
     ensures contents { F.contents files.new ≡ F.contents files.old }
 {
     match read_all(alloc, files, file, SIZE_LIMIT) {
-        Ok(bytes) => reply_to_script(alloc, bytes.as_slice()),
+        Ok(bytes) => reply_to_script(alloc, bytes.as_slice(), turns),
         Err(ReadErr::Missing) => Reply::refusal(alloc, UNREAD, b"missing: ", file.as_bytes()),
         Err(ReadErr::ReadFault) => Reply::refusal(alloc, UNREAD, b"read fault: ", file.as_bytes()),
         Err(ReadErr::TooLarge) => Reply::refusal(alloc, TOO_LARGE, b"too large: ", file.as_bytes()),

@@ -1,7 +1,8 @@
 use Rattle.std.proofs.Common.{refl}
 use Rattle.luau_cli.specs.Making.{answer_of}
 use Rattle.luau_cli.proofs.Replying.{usage_written, answers_words, answers_other, runs_script}
-use Rattle.luau_cli.proofs.Refused.{refused_outside}
+use Rattle.luau_cli.proofs.Deliveries.{ran_quiet, not_unread, refused_untouched}
+use Rattle.script_reader.proofs.Refused.{refused_outside}
 use Rattle.luau_cli.proofs.top.top.Goals as goal
 
 pub returns-in_default-clause-answer : goal.returns-in_default-clause-answer
@@ -12,8 +13,17 @@ returns-in_default-clause-answer g c =
 
 pub returns-in-Ok-clause-answer : goal.returns-in-Ok-clause-answer
 returns-in-Ok-clause-answer g c =
-    answers_words (g.F.Files.contents c.args.files.now) _ c.in-Some.file.now _ _ (answer_of c.in-Ok.reply) _ _ c.deliver.result c.in-Some.ensures c.in-Ok.ensures.told c.deliver.ensures
+    answers_words (g.F.Files.contents c.args.files.now) _ c.in-Some.command.file.now c.in-Some.command.turns _ _ (answer_of c.in-Ok.reply) _ _ c.deliver.result c.in-Some.ensures c.in-Ok.ensures.told c.deliver.ensures
 
 pub returns-in-Ok-clause-runs : goal.returns-in-Ok-clause-runs
 returns-in-Ok-clause-runs g c =
-    runs_script (g.F.Files.contents c.args.files.now) _ c.in-Some.file.now _ _ (answer_of c.in-Ok.reply) _ _ c.deliver.result refused_outside c.in-Some.ensures c.in-Ok.ensures.told c.deliver.ensures
+    runs_script (g.F.Files.contents c.args.files.now) _ c.in-Some.command.file.now c.in-Some.command.turns _ _ (answer_of c.in-Ok.reply) _ _ c.deliver.result refused_outside c.in-Some.ensures c.in-Ok.ensures.told c.deliver.ensures
+
+pub returns-in-Ok-clause-ended : goal.returns-in-Ok-clause-ended
+returns-in-Ok-clause-ended g c = λ ran.
+    let quiet = ran_quiet (answer_of c.in-Ok.reply) _ _ c.deliver.result c.deliver.ensures ran in
+    (c.in-Ok.ensures.quiet (not_unread c.in-Ok.reply.status quiet.0), quiet.1, quiet.2)
+
+pub returns-in-Ok-clause-refused : goal.returns-in-Ok-clause-refused
+returns-in-Ok-clause-refused g c = λ refused.
+    refused_untouched (answer_of c.in-Ok.reply) _ _ c.deliver.result c.in-Ok.ensures.proper c.deliver.ensures refused

@@ -1,4 +1,6 @@
 use Rattle.std.proofs.Common.{◌≡◌, ◌<◌, ◌≤◌, ◌⊎◌, ⊎_elim, [], length, ap, ◌∙◌, sym, refl, rules, arith}
+use Rattle.std.proofs.lemmas.Bool.{false≢true}
+use Rattle.luau_cli.specs.Answer.{HasRun}
 use Rattle.luau_cli.specs.Delivery.{whole, no_output, no_report, refused}
 use Rattle.luau_cli.proofs.Deliveries.{gains, gains_front, untouched}
 use Rattle.luau_cli.proofs.reply.Reply.deliver.Goals as goal
@@ -7,7 +9,7 @@ pub returns-in-Err-WriteFault : goal.returns-in-Err-WriteFault
 returns-in-Err-WriteFault g c =
     let e = c.in-Err-WriteFault.ensures in
     no_output
-    (⊎_elim (λ few. few) (λ none. let told = (e.nothing (ap length (c.as_slice.ensures.value ∙ none))).0 in cc) c.requires)
+    (⊎_elim (λ ran. ran) (λ r. let told = (e.nothing (ap length (c.as_slice.ensures.value ∙ r.1))).0 in cc) c.requires)
     (gains_front _ _ _ c.as_slice.ensures.value e.err e.fault)
     (refl, refl)
 
@@ -20,15 +22,15 @@ returns-in-Ok-put_all g c =
 pub returns-in-Err-WriteFault-put_all : goal.returns-in-Err-WriteFault-put_all
 returns-in-Err-WriteFault-put_all g c =
     no_report
-    c.if-self-le1.true
+    (c.has_run.ensures.0 c.if-has_run.true)
     (gains _ _ _ c.as_slice.ensures.value c.in-Ok.ensures.ok c.in-Ok.ensures.no_fault)
     (gains_front _ _ _ c.as_slice-2.ensures.value c.in-Err-WriteFault-put_all.ensures.err c.in-Err-WriteFault-put_all.ensures.fault)
 
 pub returns-in-Err-WriteFault-2 : goal.returns-in-Err-WriteFault-2
 returns-in-Err-WriteFault-2 g c =
-    let above : 1 < c.args.self.now.status = omega arith in
+    let ran_not : HasRun c.args.self.now.status → ⊥ = λ ran. false≢true (sym c.if-has_run.false ∙ c.has_run.ensures.1 ran) in
     refused
-    above
-    (untouched _ _ (⊎_elim (λ few. absurd (omega arith)) (λ none. none) c.requires)
+    (⊎_elim (λ ran. absurd (ran_not ran)) (λ r. r.0) c.requires)
+    (untouched _ _ (⊎_elim (λ ran. absurd (ran_not ran)) (λ r. r.1) c.requires)
     (gains _ _ _ c.as_slice.ensures.value c.in-Ok.ensures.ok c.in-Ok.ensures.no_fault))
     (gains_front _ _ _ c.as_slice-2.ensures.value c.in-Err-WriteFault-put_all.ensures.err c.in-Err-WriteFault-put_all.ensures.fault)
