@@ -6,11 +6,13 @@ use Rattle.syntax_tree.specs.declared.token.TokenKind.{TokenKind}
 use Rattle.syntax_tree.specs.declared.token.TokenKind.TheVariants as token
 use Rattle.syntax_tree.specs.Places.{kind_at, Has, Lacks, is_name, is_named, Optional, taken, absent}
 use Rattle.syntax_tree.specs.Types.{typeof_name, is_open_paren, is_literal, opens_typeof, is_closer, IsType, IsMember, no_member, member, balanced, IsAtom, literal, variadic, named, type_of, table, function, IsArguments, no_arguments, arguments, no_result, IsItems, no_items, no_fields, IsGenerics, no_generics, generics, IsGenericList, last_generic, more_generics, IsGeneric, generic, IsDefault, no_default, default}
-use Rattle.type_skip.specs.Reading.{SameBelow, ends_type, Writes, IsStuck, IsDeep, IsClosedItems, IsClosedFields, IsClosedGenerics, IsClosedBalanced, IsMemberAt, IsOpened, IsHead}
+use Rattle.type_skip.specs.Brackets.{opens_bracket}
+use Rattle.type_skip.specs.Reading.{SameBelow, ends_type, Writes, IsStuck, IsDeep, IsClosedItems, IsClosedFields, IsClosedGenerics, IsClosedBalanced, IsMemberAt, IsOpened, IsEntered, IsHead}
 use Rattle.type_skip.proofs.Forward.{optional_forward, member_forward, items_forward, generics_forward, generic_forward}
 use Rattle.type_skip.proofs.OneType.{misses, misses_back, atom_form, form, name_form, typeof_form, one_generics, one_generic, one_optional, one_member}
 use Rattle.type_skip.proofs.Moved.{move_optional, move_member, move_generics, move_generic}
 use Rattle.type_skip.proofs.Leading.{same_below, Leads, LeadsIn, Exactly}
+use Rattle.type_skip.proofs.Counting.{bracket_counts, bracket_here}
 use Rattle.type_skip.proofs.GoingOn.{within, has_within}
 use Rattle.type_skip.proofs.Ends.{member_ends, generic_ends, optional_ends}
 use Rattle.type_skip.proofs.Types.{near_of, ends_lacks, typeof_is_name, form_at, head_atom}
@@ -120,6 +122,7 @@ no_room_arguments (no_arguments n i h) = h
 pub arguments_items : (ts : List Token) (n i : ℕ) → Has ts i token.Less → LeadsIn IsArguments (IsClosedItems token.Greater) [] ts n i (i + 1)
 arguments_items ts n i h = record {
   from = omega arith;
+  opened = bracket_counts ts i i (i + 1) (omega arith) (omega arith) (ap opens_bracket h);
   reached = λ le. omega (arith, has_within ts i token.Less h);
   ends = refl;
   forth = λ us m j e le same c w. subst (λ (x : ℕ). IsArguments us (suc m) i x) (sym c.behind ∙ w.0) (arguments m i c.place (same i (omega arith) ∙ h) c.inside c.closed);
@@ -129,6 +132,7 @@ arguments_items ts n i h = record {
 deep_arguments_0 : (ts : List Token) (i : ℕ) → Has ts i token.Less → i < length ts → IsDeep IsArguments ts zero i i
 deep_arguments_0 ts i h there = record {
   from = omega arith;
+  many = bracket_here ts i i (omega arith) (ap opens_bracket h);
   there = there;
   none = λ us j same a. no_room_arguments a (same i (omega arith) ∙ h);
   before = record {
@@ -165,6 +169,13 @@ paren_of_typeof _ q h = absurd (true≢false (sym h))
 pub typeof_within : (ts : List Token) (i : ℕ) → IsTrue (opens_typeof ts i) → i + 1 < length ts
 typeof_within ts i h = within is_open_paren ts (i + 1) refl (paren_of_typeof (kind_at ts i) (kind_at ts (i + 1)) h)
 
+paren_bracket : (o : Option TokenKind) → IsTrue (is_open_paren o) → IsTrue (opens_bracket o)
+paren_bracket (Some token.OpenParen) h = refl
+paren_bracket _ h = absurd (true≢false (sym h))
+
+typeof_bracket : (ts : List Token) (i : ℕ) → IsTrue (opens_typeof ts i) → IsTrue (opens_bracket (kind_at ts (i + 1)))
+typeof_bracket ts i h = paren_bracket (kind_at ts (i + 1)) (paren_of_typeof (kind_at ts i) (kind_at ts (i + 1)) h)
+
 typeof_at : (us : List Token) (m i j : ℕ) (a : IsAtom us m i j) → IsTrue (opens_typeof us i) → form a ≡ 3
 typeof_at us m i j a h = form_at a (kind_at us i) refl ∙ typeof_form (opens_typeof us i) (kind_at us i) (kind_at us (i + 1)) refl h
 
@@ -175,6 +186,7 @@ in_typeof _ f = absurd (omega (arith, f))
 pub typeof_balanced : (ts : List Token) (n i : ℕ) → IsTrue (opens_typeof ts i) → LeadsIn IsAtom (IsClosedBalanced token.CloseParen) [] ts n i (i + 2)
 typeof_balanced ts n i h = record {
   from = omega arith;
+  opened = bracket_counts ts i (i + 1) (i + 2) (omega arith) (omega arith) (typeof_bracket ts i h);
   reached = λ le. omega (arith, typeof_within ts i h);
   ends = refl;
   forth = λ us m j e le same c w. subst (λ (x : ℕ). IsAtom us (suc m) i x) (sym c.behind ∙ w.0) (type_of m i c.place (same_typeof ts us i true same h) c.inside c.closed);
@@ -184,6 +196,7 @@ typeof_balanced ts n i h = record {
 deep_typeof_0 : (ts : List Token) (i : ℕ) → IsTrue (opens_typeof ts i) → i + 1 < length ts → IsDeep IsAtom ts zero i (i + 1)
 deep_typeof_0 ts i h there = record {
   from = omega arith;
+  many = bracket_here ts i (i + 1) (omega arith) (typeof_bracket ts i h);
   there = there;
   none = λ us j same a. absurd (omega (arith, no_room a, typeof_at us zero i j a (same_typeof ts us i true (same_below ts us (i + 2) (i + 1 + 1) (omega arith) same) h)));
   before = record {
@@ -247,6 +260,7 @@ brace_at us m i j a h = form_at a (Some token.OpenBrace) h
 pub table_fields : (ts : List Token) (n i : ℕ) → Has ts i token.OpenBrace → LeadsIn IsAtom IsClosedFields [] ts n i (i + 1)
 table_fields ts n i h = record {
   from = omega arith;
+  opened = bracket_counts ts i i (i + 1) (omega arith) (omega arith) (ap opens_bracket h);
   reached = λ le. omega (arith, has_within ts i token.OpenBrace h);
   ends = refl;
   forth = λ us m j e le same c w. subst (λ (x : ℕ). IsAtom us (suc m) i x) (sym c.behind ∙ w.0) (table m i c.place (same i (omega arith) ∙ h) c.inside c.closed);
@@ -256,6 +270,7 @@ table_fields ts n i h = record {
 deep_table_0 : (ts : List Token) (i : ℕ) → Has ts i token.OpenBrace → i < length ts → IsDeep IsAtom ts zero i i
 deep_table_0 ts i h there = record {
   from = omega arith;
+  many = bracket_here ts i i (omega arith) (ap opens_bracket h);
   there = there;
   none = λ us j same a. absurd (omega (arith, no_room a, brace_at us zero i j a (same i (omega arith) ∙ h)));
   before = record { kinds = token.Nil ∷ []; whole = λ us j same w. nil_there us zero i j w };
@@ -281,17 +296,31 @@ in_function : {us : List Token} {m i j : ℕ} (a : IsAtom us m i j) → form a �
 in_function (function n i j k l g h p c r) f = (n, j + 1, refl, record { place = j; generics = g; opens = h; behind = refl })
 in_function _ f = absurd (omega (arith, f))
 
-pub function_opened : (ts : List Token) (n i : ℕ) → Has ts i token.Less ⊎ Has ts i token.OpenParen → LeadsIn IsAtom IsOpened (token.CloseParen ∷ []) ts n i i
+begin_bracket : (o : Option TokenKind) → (o ≡ Some token.Less) ⊎ (o ≡ Some token.OpenParen) → IsTrue (opens_bracket o)
+begin_bracket o (inl h) = ap opens_bracket h
+begin_bracket o (inr h) = ap opens_bracket h
+
+-- no items, and the parenthesis that closes them
+empty_function : (us : List Token) (m i j e : ℕ) → IsOpened us m i j → Writes us j (token.CloseParen ∷ []) e → IsAtom us (suc m) i e
+empty_function us m i j e o w =
+    let close : Has us (o.place + 1) token.CloseParen = ap (kind_at us) (sym o.behind) ∙ w.0 in
+    let over : IsTrue (ends_type (kind_at us (o.place + 1 + 1))) = ap (λ x. ends_type (kind_at us (x + 1))) (sym o.behind) ∙ w.1.1 in
+    subst (λ (x : ℕ). IsAtom us (suc m) i x) (ap (λ x. x + 1) (sym o.behind) ∙ w.1.0)
+    (function m i o.place (o.place + 1) (o.place + 1 + 1) o.generics o.opens
+    (no_items token.CloseParen m (o.place + 1) close) close
+    (no_result (suc m) (o.place + 1 + 1) (ends_lacks us (o.place + 1 + 1) token.Arrow refl over)))
+
+pub function_opened :
+    (ts : List Token) (n i : ℕ) → Has ts i token.Less ⊎ Has ts i token.OpenParen
+    → Leads IsAtom IsEntered (token.CloseParen ∷ []) ts n i i
 function_opened ts n i h = record {
   from = omega arith;
   reached = λ le. le;
   ends = refl;
-  forth = λ us m j e le same o w.
-      let close : Has us (o.place + 1) token.CloseParen = ap (kind_at us) (sym o.behind) ∙ w.0 in
-      let over : IsTrue (ends_type (kind_at us (o.place + 1 + 1))) = ap (λ x. ends_type (kind_at us (x + 1))) (sym o.behind) ∙ w.1.1 in
-      subst (λ (x : ℕ). IsAtom us (suc m) i x) (ap (λ x. x + 1) (sym o.behind) ∙ w.1.0)
-      (function m i o.place (o.place + 1) (o.place + 1 + 1) o.generics o.opens (no_items token.CloseParen m (o.place + 1) close) close (no_result (suc m) (o.place + 1 + 1) (ends_lacks us (o.place + 1 + 1) token.Arrow refl over)));
-  back = λ us m j same a. in_function a (function_at ts us m i j a h same);
+  forth = λ us m j e le same o w. subst (λ (x : ℕ). IsAtom us x i e) (sym o.room) (empty_function us o.inner i j e o.opened w);
+  back = λ us m j same a.
+      let o = in_function a (function_at ts us m i j a h same) in
+      (o.1, record { inner = o.0; room = o.2; opened = o.3 });
 }
 
 moved_generics : (ts us : List Token) (n m i k : ℕ) → IsOpened ts n i k → n ≤ m → SameBelow k ts us → IsOpened us m i k
@@ -313,6 +342,7 @@ function_parameters ts n i k begin o =
     let f = generics_forward o.generics in
     record {
       from = omega (arith, f, o.behind);
+      opened = bracket_counts ts i o.place k f (omega (arith, o.behind)) (ap opens_bracket o.opens);
       reached = λ le. omega (arith, has_within ts o.place token.OpenParen o.opens, o.behind);
       ends = refl;
       forth = λ us m j e le same c w.
@@ -341,6 +371,7 @@ deeper_head ts us i j (inr h) same w =
 deep_head_0 : (ts : List Token) (i : ℕ) → Has ts i token.Less ⊎ Has ts i token.OpenParen → i < length ts → IsDeep IsAtom ts zero i i
 deep_head_0 ts i h there = record {
   from = omega arith;
+  many = bracket_here ts i i (omega arith) (begin_bracket (kind_at ts i) h);
   there = there;
   none = λ us j same a. absurd (omega (arith, no_room a, function_at ts us zero i j a h same));
   before = record { kinds = token.Nil ∷ []; whole = λ us j same w. nil_there us zero i j w };
@@ -360,17 +391,24 @@ with_generics {us = us} {m = m} {i = i} {j = j} o h = inside o.generics o.opens 
     inside (no_generics n a g) p e f = absurd (g f)
     inside (generics n a b g l c) p e f = record { place = b; inside = l; closed = c; opens = p; behind = omega (arith, e) }
 
-pub opened_generics : (ts : List Token) (n i : ℕ) → Has ts i token.Less → Exactly IsOpened IsClosedGenerics ts n i (i + 1)
+pub generics_opened : (ts : List Token) (n i j : ℕ) → Has ts i token.Less → IsClosedGenerics ts n (i + 1) j → IsOpened ts n i j
+generics_opened ts n i j h c = record {
+  place = c.place + 1;
+  generics = generics n i c.place h c.inside c.closed;
+  opens = c.opens;
+  behind = omega (arith, c.behind);
+}
+
+pub opened_generics : (ts : List Token) (n i : ℕ) → Has ts i token.Less → LeadsIn IsEntered IsClosedGenerics [] ts n i (i + 1)
 opened_generics ts n i h = record {
   from = omega arith;
+  opened = bracket_counts ts i i (i + 1) (omega arith) (omega arith) (ap opens_bracket h);
   reached = λ le. omega (arith, has_within ts i token.Less h);
-  forth = λ us m e le same c. record {
-    place = c.place + 1;
-    generics = generics m i c.place (same i (omega arith) ∙ h) c.inside c.closed;
-    opens = c.opens;
-    behind = omega (arith, c.behind);
-  };
-  back = λ us m e same o. with_generics o (same i (omega arith) ∙ h);
+  ends = refl;
+  forth = λ us m j e le same c w.
+      let o : IsOpened us m i j = generics_opened us m i j (same i (omega arith) ∙ h) c in
+      record { inner = m; room = refl; opened = subst (λ (x : ℕ). IsOpened us m i x) w.0 o };
+  back = λ us m j same o. (o.inner, j, o.room, with_generics o.opened (same i (omega arith) ∙ h));
 }
 
 -- ---- a list of generics

@@ -5,7 +5,9 @@ use Rattle.syntax_tree.specs.declared.token.TokenKind.{TokenKind}
 use Rattle.syntax_tree.specs.Places.{kind_at}
 use Rattle.type_skip.specs.declared.fault.Fault.{Fault}
 use Rattle.type_skip.specs.declared.fault.Fault.TheVariants.{Unexpected, TooDeep}
+use Rattle.type_skip.specs.Brackets.{brackets}
 use Rattle.type_skip.specs.Reading.{SameBelow, ends_type, Writes, Fails}
+use Rattle.type_skip.proofs.Counting.{brackets_grow}
 
 pub same_below : (ts us : List Token) (i j : ℕ) → i ≤ j → SameBelow j ts us → SameBelow i ts us
 same_below ts us i j le same = λ q less. same q (omega arith)
@@ -37,6 +39,7 @@ pub record Leads (Q P : List Token → (n i j : ℕ) → Type 0) (tail : List To
 -- the same, where P stands in one more bracket
 pub record LeadsIn (Q P : List Token → (n i j : ℕ) → Type 0) (tail : List TokenKind) (ts : List Token) (n i at : ℕ) : Type 0 where
   pub from : i ≤ at
+  pub opened : brackets ts i + 1 ≤ brackets ts at
   pub reached : i ≤ length ts → at ≤ length ts
   pub ends : ends_first tail
   pub forth : (us : List Token) (m j e : ℕ) → n ≤ m → SameBelow at ts us → P us m at j → Writes us j tail e → Q us (suc m) i e
@@ -59,9 +62,10 @@ leads_fails {tail = tail} {ts = ts} {at = at} lead (Unexpected k) f = record {
     whole = λ us e same w. let s = split us k f.before.kinds tail e lead.ends w in lead.forth us _ s.0 e (omega arith) (same_below ts us at k f.from same) (f.before.whole us s.0 same s.1) s.2;
   };
 }
-leads_fails {tail = tail} {ts = ts} {n = n} {at = at} lead (TooDeep k) f = record {
+leads_fails {tail = tail} {ts = ts} {n = n} {i = i} {at = at} lead (TooDeep k) f = record {
   from = omega (arith, lead.from, f.from);
   there = f.there;
+  many = omega (arith, brackets_grow ts i at lead.from, f.many);
   none = λ us j same q. let p = lead.back us n j (same_below ts us (at + 1) (k + 1) (omega (arith, f.from)) same) q in f.none us p.0 same p.1;
   before = record {
     kinds = f.before.kinds ++ tail;
@@ -83,9 +87,10 @@ leads_in_fails {tail = tail} {ts = ts} {n = n} {at = at} lead (Unexpected k) f =
     whole = λ us e same w. let s = split us k f.before.kinds tail e lead.ends w in lead.forth us n s.0 e (omega arith) (same_below ts us at k f.from same) (f.before.whole us s.0 same s.1) s.2;
   };
 }
-leads_in_fails {P = P} {tail = tail} {ts = ts} {n = n} {at = at} lead (TooDeep k) f = record {
+leads_in_fails {P = P} {tail = tail} {ts = ts} {n = n} {i = i} {at = at} lead (TooDeep k) f = record {
   from = omega (arith, lead.from, f.from);
   there = f.there;
+  many = omega (arith, lead.opened, f.many);
   none = λ us j same q.
       let p = lead.back us (suc n) j (same_below ts us (at + 1) (k + 1) (omega (arith, f.from)) same) q in
       let room : p.0 ≡ n = omega (arith, p.2) in
@@ -110,9 +115,10 @@ exactly_fails {ts = ts} {n = n} {at = at} lead (Unexpected k) f = record {
     whole = λ us e same w. lead.forth us n e (omega arith) (same_below ts us at k f.from same) (f.before.whole us e same w);
   };
 }
-exactly_fails {ts = ts} {n = n} {at = at} lead (TooDeep k) f = record {
+exactly_fails {ts = ts} {n = n} {i = i} {at = at} lead (TooDeep k) f = record {
   from = omega (arith, lead.from, f.from);
   there = f.there;
+  many = omega (arith, brackets_grow ts i at lead.from, f.many);
   none = λ us j same q. f.none us j same (lead.back us n j (same_below ts us (at + 1) (k + 1) (omega (arith, f.from)) same) q);
   before = record {
     kinds = f.before.kinds;

@@ -2,6 +2,7 @@ pub mod Forward
 pub mod OneType
 pub mod Moved
 pub mod Symbols
+pub mod Counting
 pub mod Leading
 pub mod Types
 pub mod Atoms

@@ -6,11 +6,13 @@ use Rattle.syntax_tree.specs.declared.token.TokenKind.{TokenKind}
 use Rattle.syntax_tree.specs.declared.token.TokenKind.TheVariants as token
 use Rattle.syntax_tree.specs.Places.{kind_at, Has, Lacks, is_name, absent}
 use Rattle.syntax_tree.specs.Types.{is_open_paren, is_colon, is_bar, is_separator, is_literal, is_label, IsType, plain_type, last_part, part, no_mark, no_member, literal, named, no_arguments, IsItems, no_items, items, IsItemList, last_item, more_items, IsItem, plain_item, labelled_item, IsFields, no_fields, last_field, more_fields, IsField, keyed_field, item_field}
+use Rattle.type_skip.specs.Brackets.{opens_bracket}
 use Rattle.type_skip.specs.Reading.{SameBelow, ends_type, Writes, IsStuck, IsDeep, Fails, IsClosedItems, IsClosedItemList, IsClosedFields}
 use Rattle.type_skip.proofs.Forward.{type_forward, item_forward, field_forward}
 use Rattle.type_skip.proofs.OneType.{clash, clash_back, misses, misses_back, one_type, one_item, one_field}
 use Rattle.type_skip.proofs.Moved.{bar_ends, move_type, move_item, move_field}
 use Rattle.type_skip.proofs.Leading.{same_below, Leads, LeadsIn, Exactly}
+use Rattle.type_skip.proofs.Counting.{bracket_counts, bracket_here}
 use Rattle.type_skip.proofs.GoingOn.{of_kinds, going_on, within, has_within}
 use Rattle.type_skip.proofs.Ends.{type_ends, item_ends, field_ends}
 use Rattle.type_skip.proofs.Atoms.{unopened, paren_ends}
@@ -103,6 +105,7 @@ plain_item_fails ts n i h (Unexpected k) f = record {
 plain_item_fails ts n i h (TooDeep k) f = record {
   from = f.from;
   there = f.there;
+  many = f.many;
   none = λ us j same item. f.none us j same (item_type item (label_only ts us n i k h f.from (λ vs e. f.none vs e) same));
   before = record {
     kinds = f.before.kinds;
@@ -268,6 +271,7 @@ in_key (item_field n i j h p) f = absurd (h f)
 pub field_key : (ts : List Token) (n i : ℕ) → Has ts i token.OpenBracket → LeadsIn IsField IsType (token.CloseBracket ∷ token.Colon ∷ token.Nil ∷ []) ts n i (i + 1)
 field_key ts n i h = record {
   from = omega arith;
+  opened = bracket_counts ts i i (i + 1) (omega arith) (omega arith) (ap opens_bracket h);
   reached = λ le. omega (arith, has_within ts i token.OpenBracket h);
   ends = refl;
   forth = λ us m j e le same t w. key_end us m i j e (same i (omega arith) ∙ h) t w;
@@ -328,6 +332,7 @@ field_value ts n i k h t close colon =
 deep_field_0 : (ts : List Token) (i : ℕ) → Has ts i token.OpenBracket → i < length ts → IsDeep IsField ts zero i i
 deep_field_0 ts i h there = record {
   from = omega arith;
+  many = bracket_here ts i i (omega arith) (ap opens_bracket h);
   there = there;
   none = λ us j same f. no_room_field f (same i (omega arith) ∙ h);
   before = record {

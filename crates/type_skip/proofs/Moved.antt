@@ -254,3 +254,14 @@ mutual
   pub move_default : {ts us : List Token} {n i j : ℕ} → IsDefault ts n i j → (m : ℕ) → n ≤ m → Near ts us j → IsDefault us m i j
   move_default (no_default n i h) m le near = no_default m i (lacks_near token.Equal refl near (omega arith) h)
   move_default (default n i j h t) m le near = default m i j (has_near near (omega (arith, type_forward t)) h) (move_type t m le near)
+
+-- ---- types
+
+-- a type depends on the tokens up to the place behind it
+pub same_type : (ts us : List Token) (n i j : ℕ) → SameBelow (j + 1) ts us → IsType ts n i j → IsType us n i j
+same_type ts us n i j same t =
+    move_type t n (omega arith) (record { below = λ q less. same q (omega arith); here = inl (same j (omega arith)) })
+
+-- more brackets may be open
+pub more_brackets : (ts : List Token) (n m i j : ℕ) → n ≤ m → IsType ts n i j → IsType ts m i j
+more_brackets ts n m i j le t = move_type t m le (record { below = λ q less. refl; here = inl refl })

@@ -19,16 +19,16 @@ use Rattle.type_skip.proofs.GoingOn.{of_kinds, going_on}
 
 -- ---- the tokens before a place
 
-kind_taken : (k : ℕ) (ts : List Token) (q : ℕ) → q < k → kind_at (take k ts) q ≡ kind_at ts q
+pub kind_taken : (k : ℕ) (ts : List Token) (q : ℕ) → q < k → kind_at (take k ts) q ≡ kind_at ts q
 kind_taken zero ts q less = absurd (omega (arith, less))
 kind_taken (suc k) [] q less = refl
 kind_taken (suc k) (t ∷ ts) zero less = refl
 kind_taken (suc k) (t ∷ ts) (suc q) less = kind_taken k ts q (omega (arith, less))
 
-same_kinds : (ts us : List Token) (k : ℕ) → BeginsAs ts k us → SameBelow k ts us
+pub same_kinds : (ts us : List Token) (k : ℕ) → BeginsAs ts k us → SameBelow k ts us
 same_kinds ts us k e = λ q less. sym (kind_taken k us q less) ∙ ap (λ vs. kind_at vs q) e ∙ kind_taken k ts q less
 
-taken_front : (k : ℕ) (ts vs : List Token) → k ≤ length ts → take k (take k ts ++ vs) ≡ take k ts
+pub taken_front : (k : ℕ) (ts vs : List Token) → k ≤ length ts → take k (take k ts ++ vs) ≡ take k ts
 taken_front zero ts vs le = refl
 taken_front (suc k) [] vs le = absurd (omega (arith, le))
 taken_front (suc k) (t ∷ ts) vs le = ap (λ xs. t ∷ xs) (taken_front k ts vs (omega (arith, le)))
@@ -67,7 +67,7 @@ shown ts (Ok j) = Ok j
 shown ts (Err (fault.Unexpected k)) = Err (Unexpected (unwrap_or (offset_at ts k) (end_of ts)))
 shown ts (Err (fault.TooDeep k)) = Err (TooDeep (unwrap_or (offset_at ts k) (end_of ts)))
 
-there_or_past : (ts : List Token) (k : ℕ) → (k < length ts) ⊎ (length ts ≤ k) → ((x : ℕ) × (offset_at ts k ≡ Some x)) ⊎ ((length ts ≤ k) × (offset_at ts k ≡ None))
+pub there_or_past : (ts : List Token) (k : ℕ) → (k < length ts) ⊎ (length ts ≤ k) → ((x : ℕ) × (offset_at ts k ≡ Some x)) ⊎ ((length ts ≤ k) × (offset_at ts k ≡ None))
 there_or_past ts k (inl less) = inl (within ts k less)
   where
     within : (ts : List Token) (k : ℕ) → k < length ts → (x : ℕ) × (offset_at ts k ≡ Some x)
@@ -117,6 +117,7 @@ deep_at ts i k d (inl there) =
       there.1 ∙ ap (λ o. Some (unwrap_or o (end_of ts))) (sym there.1),
       record {
         behind = d.from;
+        many = d.many;
         none = λ us to e type. d.none us to (same_kinds ts us (k + 1) e) type;
         before = goes_on ts most i k (omega (arith, d.there)) d.before;
         deeper = (g.0, suc most, g.1, g.2, g.3);

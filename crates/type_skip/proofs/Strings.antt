@@ -13,6 +13,7 @@ use Rattle.type_skip.specs.declared.balanced.Turn.{Turn}
 use Rattle.type_skip.specs.declared.balanced.Turn.TheVariants.{Pass, Nest, Done, Stuck}
 use Rattle.type_skip.specs.declared.tokens.Symbol.{Symbol}
 use Rattle.type_skip.specs.declared.tokens.Symbol.TheVariants as symbol
+use Rattle.type_skip.specs.Brackets.{opens_bracket}
 use Rattle.type_skip.specs.Balance.{class_of, turn_of}
 use Rattle.type_skip.specs.Symbols.{stands, token_of}
 use Rattle.type_skip.specs.Reading.{SameBelow, ends_type, Writes, IsStuck, IsDeep, IsClosedBalanced, IsClosedStrings}
@@ -20,6 +21,7 @@ use Rattle.type_skip.proofs.Forward.{balanced_forward}
 use Rattle.type_skip.proofs.OneType.{balanced_form, form_b, form_b_is, same_balanced}
 use Rattle.type_skip.proofs.Moved.{move_balanced}
 use Rattle.type_skip.proofs.GoingOn.{past, within, has_within}
+use Rattle.type_skip.proofs.Counting.{bracket_counts, bracket_here}
 use Rattle.type_skip.proofs.Symbols.{has, stands_itself}
 use Rattle.type_skip.proofs.Leading.{LeadsIn, Exactly, ends_first}
 
@@ -255,6 +257,12 @@ class_within ts i cl e ne = by_cases (cases_lt i (length ts))
     by_cases (inl less) = less
     by_cases (inr more) = absurd (ne (sym (ap class_of (past ts i more)) ∙ e))
 
+class_bracket : (o : Option TokenKind) (s : Symbol) → class_of o ≡ Open s → IsTrue (opens_bracket o)
+class_bracket (Some token.OpenParen) s h = refl
+class_bracket (Some token.OpenBracket) s h = refl
+class_bracket (Some token.OpenBrace) s h = refl
+class_bracket _ s h = absurd cc
+
 nested : (us : List Token) (c : TokenKind) (inner : Symbol) (m s i j e : ℕ) → class_of (kind_at us i) ≡ Open inner → IsClosedBalanced (token_of inner) us m (i + 1) j → IsClosedStrings s c us (suc m) j e → IsClosedStrings s c us (suc m) i e
 nested us c inner m s i j e h q p =
     let o = open_of (kind_at us i) inner h in
@@ -267,6 +275,7 @@ in_bracket inner _ f e = absurd (omega (arith, f))
 pub nest_leads : (ts : List Token) (c : TokenKind) (inner : Symbol) (n s i : ℕ) → IsTrue (is_closer (Some c)) → class_of (kind_at ts i) ≡ Open inner → LeadsIn (IsClosedStrings s c) (IsClosedBalanced (token_of inner)) (tails s c) ts n i (i + 1)
 nest_leads ts c inner n s i closes h = record {
   from = omega arith;
+  opened = bracket_counts ts i i (i + 1) (omega arith) (omega arith) (class_bracket (kind_at ts i) inner h);
   reached = λ le. omega (arith, class_within ts i (Open inner) h (λ e. cc));
   ends = tails_end s c closes;
   forth = λ us m j e le same q w. nested us c inner m s i j e (ap class_of (same i (omega arith)) ∙ h) q (close_strings us (suc m) s c j e closes w);
@@ -316,6 +325,7 @@ no_room_balanced (interp_end n s i j x h b) = omega arith
 deep_nest_0 : (ts : List Token) (c : TokenKind) (inner : Symbol) (s i : ℕ) → IsTrue (is_closer (Some c)) → class_of (kind_at ts i) ≡ Open inner → i < length ts → IsDeep (IsClosedStrings s c) ts zero i i
 deep_nest_0 ts c inner s i closes h there = record {
   from = omega arith;
+  many = bracket_here ts i i (omega arith) (class_bracket (kind_at ts i) inner h);
   there = there;
   none = λ us j same p. absurd (omega (arith, no_room_balanced p.inside, form_here p.inside (Open inner) (ap class_of (same i (omega arith)) ∙ h)));
   before = record { kinds = tails s c; whole = λ us j same w. close_strings us zero s c i j closes w };

@@ -1,4 +1,5 @@
 pub mod Balance
+pub mod Brackets
 pub mod Reading
 pub mod Refusals
 pub mod Symbols

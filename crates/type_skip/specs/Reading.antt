@@ -5,6 +5,7 @@ use Rattle.syntax_tree.specs.declared.token.TokenKind.{TokenKind}
 use Rattle.syntax_tree.specs.declared.token.TokenKind.TheVariants as token
 use Rattle.syntax_tree.specs.Places.{kind_at, Has}
 use Rattle.syntax_tree.specs.Types.{is_bar, IsAtom, IsMember, IsItems, IsItemList, IsFields, IsGenerics, IsGenericList, IsBalanced}
+use Rattle.type_skip.specs.Brackets.{brackets}
 use Rattle.type_skip.specs.declared.fault.Fault.{Fault}
 use Rattle.type_skip.specs.declared.fault.Fault.TheVariants.{Unexpected, TooDeep}
 use Rattle.type_skip.specs.declared.parts.Step.{Step}
@@ -42,10 +43,11 @@ pub record IsStuck (P : List Token → (n i j : ℕ) → Type 0) (ts : List Toke
   pub none : (us : List Token) (m j : ℕ) → SameBelow (k + 1) ts us → P us m i j → ⊥
   pub before : Completes P ts n i k
 
--- the token at place k is a bracket, the first with which more than n are open
+-- the token at place k is a bracket, the first with which more than n are open; and more than n stand from place i up to it
 pub record IsDeep (P : List Token → (n i j : ℕ) → Type 0) (ts : List Token) (n i k : ℕ) : Type 0 where
   pub from : i ≤ k
   pub there : k < length ts
+  pub many : brackets ts i + n < brackets ts (k + 1)
   pub none : (us : List Token) (j : ℕ) → SameBelow (k + 1) ts us → P us n i j → ⊥
   pub before : Completes P ts n i k
   pub deeper : Completes P ts (suc n) i (k + 1)
@@ -94,6 +96,12 @@ pub record IsOpened (ts : List Token) (n i j : ℕ) : Type 0 where
   pub generics : IsGenerics ts n i place
   pub opens : Has ts place token.OpenParen
   pub behind : j ≡ place + 1
+
+-- the same, in one bracket more
+pub record IsEntered (ts : List Token) (n i j : ℕ) : Type 0 where
+  pub inner : ℕ
+  pub room : n ≡ suc inner
+  pub opened : IsOpened ts inner i j
 
 -- balanced tokens, with `strings` interpolated strings that are not at their end yet
 abbrev pub IsClosedStrings : (strings : ℕ) → TokenKind → List Token → (n i j : ℕ) → Type 0

@@ -1,8 +1,9 @@
 -- What passing a type answers: where it ends, the first token with which there is no type, or the bracket that is one too
 -- many.
-use Rattle.std.specs.Prelude.{◌≡◌, ℕ, ◌+◌, ◌-◌, ◌≤◌, List, ◌++◌, length, take, Option, Some, Result, Ok, Err, option_map, unwrap_or, slice_get, ◌⊎◌}
+use Rattle.std.specs.Prelude.{◌≡◌, ℕ, ◌+◌, ◌-◌, ◌≤◌, ◌<◌, List, ◌++◌, length, take, Option, Some, Result, Ok, Err, option_map, unwrap_or, slice_get, ◌⊎◌}
 use Rattle.syntax_tree.specs.declared.token.Token.{Token}
 use Rattle.syntax_tree.specs.Types.{IsType}
+use Rattle.type_skip.specs.Brackets.{brackets}
 use Rattle.type_skip.specs.declared.skipping.TypeErr.{TypeErr}
 use Rattle.type_skip.specs.declared.skipping.TypeErr.TheVariants.{Unexpected, TooDeep}
 
@@ -35,9 +36,11 @@ pub record EndsEarly (ts : List Token) (from : ℕ) : Type 0 where
   pub before : from ≤ length ts → (us : List Token) × (to : ℕ) × IsType (ts ++ us) most from to
 
 -- Tokens that begin with those up to and including token k have a type at place `from`, but none in which so few brackets
--- are open at once; and it is the first such token. So it is a bracket of the type, and the 201st that is open.
+-- are open at once; and it is the first such token. So it is a bracket of the type, and the 201st that is open. More than
+-- 200 opening brackets stand from place `from` up to it.
 pub record OpensTooMany (ts : List Token) (from k : ℕ) : Type 0 where
   pub behind : from ≤ k
+  pub many : brackets ts from + most < brackets ts (k + 1)
   pub none : (us : List Token) (to : ℕ) → BeginsAs ts (k + 1) us → IsType us most from to → ⊥
   pub before : (us : List Token) × (to : ℕ) × BeginsAs ts k us × IsType us most from to
   pub deeper : (us : List Token) × (n to : ℕ) × BeginsAs ts (k + 1) us × IsType us n from to

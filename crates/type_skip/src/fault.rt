@@ -8,9 +8,9 @@ ghost use Rattle.type_skip.specs.declared.fault.Fault.TheVariants.{Unexpected, T
 use crate::tokens::{Symbol, stands};
 use syntax_tree::Token;
 
-/// A fault, with the place of its token.
+/// Why a part of a type cannot be read, with the place of its token in the token list.
 #[derive(Clone, Copy)]
-pub(crate) enum Fault {
+pub enum Fault {
     /// No type goes on with this token, or the tokens end here.
     Unexpected(usize),
     /// This bracket is one too many that is open.

@@ -7,6 +7,8 @@ mod parts;
 mod skipping;
 mod tokens;
 
+pub use fault::Fault;
+pub use parts::type_end;
 pub use skipping::{TypeErr, one_type, skip_type};
 
 #[cfg(test)]

@@ -6,7 +6,7 @@ ghost use Rattle.std.specs.Prelude.{◌≡◌, ℕ, ◌+◌, ◌<◌, ◌^◌, �
 ghost use Rattle.syntax_tree.specs.Places.{kind_at, Has, Lacks, is_name};
 ghost use Rattle.syntax_tree.specs.Types.{IsType, IsAtom, IsArguments, IsItem, IsField, IsGeneric, IsDefault, opens_typeof};
 ghost use Rattle.syntax_tree.specs.declared.token.TokenKind.TheVariants.{OpenBrace, Less, OpenParen};
-ghost use Rattle.type_skip.specs.Reading.{ends_type, Reads, ReadsAs, IsStep, IsHead, IsOpened, IsMemberAt, IsBehindBar, IsClosedItems, IsClosedItemList, IsClosedFields, IsClosedGenerics};
+ghost use Rattle.type_skip.specs.Reading.{ends_type, Reads, ReadsAs, IsStep, IsHead, IsOpened, IsEntered, IsMemberAt, IsBehindBar, IsClosedItems, IsClosedItemList, IsClosedFields, IsClosedGenerics};
 ghost use Rattle.type_skip.specs.Symbols.{token_of};
 
 use crate::balanced::balanced_end;
@@ -28,9 +28,9 @@ pub(crate) enum Step {
     Result(usize),
 }
 
-/// Where a type ends.
+/// The place behind the type that begins at a place, in which at most `room` brackets are open at once.
 #[cycle(parts)]
-pub(crate) fn type_end(tokens: &[Token], at: usize, room: usize) -> Result<usize, Fault>
+pub fn type_end(tokens: &[Token], at: usize, room: usize) -> Result<usize, Fault>
     ensures { Reads IsType tokens.now room at result }
 {
     let mut at = behind_bar(tokens, at);
@@ -240,7 +240,7 @@ fn field_end(tokens: &[Token], at: usize, room: usize) -> Result<usize, Fault>
 #[cycle(parts)]
 fn generics_end(tokens: &[Token], at: usize, room: usize) -> Result<usize, Fault>
     requires { Has tokens.now at Less ⊎ Has tokens.now at OpenParen }
-    ensures { Reads IsOpened tokens.now room at result }
+    ensures { ReadsAs (IsOpened tokens.now room at) IsEntered tokens.now (room + 1) at result }
 {
     if stands(tokens, at, Symbol::OpenParen) {
         return Ok(at + 1);

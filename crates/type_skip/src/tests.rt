@@ -1,6 +1,6 @@
 //! Where types end in some token lists, and which token is refused.
 
-use crate::{TypeErr, skip_type};
+use crate::{TypeErr, skip_type, type_end};
 use byte_text::StrId;
 use std::alloc::{AllocError, Global};
 use std::test::Fail;
@@ -198,6 +198,7 @@ fn from_other_places(rt: HostRuntime) -> Result<(), Fail> {
     let tokens = tokens_of(rt.alloc(), b"n:n?=n")?;
     assert!(rt; skip_type(&tokens, 2) == Ok(4));
     assert!(rt; skip_type(&tokens, 5) == Ok(6));
+    assert!(rt; matches!(type_end(&tokens, 2, 0), Ok(4)));
     assert!(rt; skip_type(&tokens, 6) == Err(TypeErr::Unexpected { at: 6 }));
     assert!(rt; skip_type(&tokens, 900) == Err(TypeErr::Unexpected { at: 6 }));
     Ok(())

@@ -6,7 +6,7 @@ use Rattle.syntax_tree.specs.Types.{IsType, IsParts, last_part, part, IsAtom, li
 use Rattle.type_skip.specs.declared.fault.Fault.TheVariants.{Unexpected}
 use Rattle.type_skip.specs.declared.parts.Step.{Step}
 use Rattle.type_skip.specs.declared.parts.Step.TheVariants as step
-use Rattle.type_skip.specs.Reading.{IsStep}
+use Rattle.type_skip.specs.Reading.{Fails, IsStep, IsEntered}
 use Rattle.type_skip.specs.Symbols.{token_of}
 use Rattle.type_skip.proofs.Forward.{atom_forward, marks_forward, item_forward, field_forward, generic_forward}
 use Rattle.type_skip.proofs.Leading.{Exactly, leads_fails, exactly_fails, exactly_then, same_self}
@@ -184,7 +184,9 @@ pub generics_end-returns : goal.generics_end-returns
 generics_end-returns t c =
     let ts = c.args.tokens.now in
     let less = atoms.not_paren ts c.args.at c.requires (c.if-stands.ensures.absent refl) in
-    reads_exactly c.generic_list_end.result (atoms.opened_generics ts c.args.room c.args.at less) c.generic_list_end.ensures
+    let n = c.args.room in
+    reads_as c.generic_list_end.result (λ j q. atoms.generics_opened ts n c.args.at j less q)
+    (λ f h. fails_in (n + 1) refl (atoms.opened_generics ts n c.args.at less) f h) c.generic_list_end.ensures
 
 pub head_end-returns-in_err-inner : goal.head_end-returns-in_err-inner
 head_end-returns-in_err-inner t c =
@@ -198,7 +200,9 @@ head_end-returns-in_err-begin t c =
     let ts = c.args.tokens.now in
     let p = err_from_is_err_and c.from_residual-in_err-begin.result c.from_residual-in_err-begin.ensures.1 in
     let f = c.in_err-begin.field-0.0 in
-    rw (p.1, p.2) (fails_in c.args.room c.in_ok-inner.ensures (atoms.function_opened ts c.in_ok-inner.inner c.args.at c.requires) f c.in_err-begin.ensures)
+    let fails : Fails IsEntered ts c.args.room c.args.at f =
+    subst (λ (x : ℕ). Fails IsEntered ts x c.args.at f) c.in_ok-inner.ensures c.in_err-begin.ensures in
+    rw (p.1, p.2) (leads_fails (atoms.function_opened ts c.args.room c.args.at c.requires) f fails)
 
 pub head_end-returns : goal.head_end-returns
 head_end-returns t c =
