@@ -7,8 +7,16 @@ pub mod Operators
 pub mod Places
 pub mod Types
 pub mod Words
+pub mod Bound
 pub mod Bulk
+pub mod Captures
+pub mod Faults
 pub mod Fold
+pub mod Leaps
 pub mod Lists
+pub mod Names
 pub mod Need
 pub mod Nest
+pub mod Rules
+pub mod Scope
+pub mod Sizes

@@ -4,17 +4,21 @@
 #![tactic(auto)]
 
 mod bindings;
+mod fault;
 mod length;
 mod level;
 mod nesting;
+mod notes;
 mod token;
 mod tree;
 mod width;
 
 pub use bindings::{Bindings, Bound, LocalInfo};
+pub use fault::{ScopeFault, ScopeRule};
 pub use length::bulk;
 pub use level::Level;
 pub use nesting::nest;
+pub use notes::{Leap, Note, Place, Visible};
 pub use token::{Token, TokenKind};
 pub use tree::{
     Arm, BinOp, Expr, ExprArm, ExprKind, Field, FieldKind, FuncBody, Stat, StatKind, Tree, UnOp,
