@@ -36,6 +36,7 @@ use Rattle.source_meaning.specs.States.{Environment, cell_of, Frame, LeftOperand
 use Rattle.source_meaning.specs.Steps as source
 use Rattle.source_meaning.specs.Runs.{start, SourceRun}
 use Rattle.emit_stat.specs.Form.{register_of, operation, unless, names_beyond, names_after, IsArithmetic, IsCondition, IsPrint, IsStatement, IsBlock, IsOther}
+use Rattle.emit_stat.specs.Correct.{RunsHaveReports}
 use Rattle.emit_stat.proofs.Locals.{Since, since_on}
 use Rattle.emit_stat.proofs.Following.{opened, begun, truth_of}
 
@@ -367,11 +368,15 @@ mutual
 
 -- ---- a whole script
 
-pub never_stuck : (stats : List Stat) → IsBlock [] stats → (n : ℕ) (r : Report (List ℕ) source.Look) → SourceRun stats n r → r.end ≢ Stuck
-never_stuck stats form n r run =
+pub has_report : RunsHaveReports
+has_report stats form n =
     let fine = statements_fine [] stats form n [] []
     (λ left le names env cells ok since. ends left _ Ended refl (λ same. cc)) []
     (record { numbers = λ c lt. absurd (omega (arith, lt)); bound = Bound.none }) in
-    let o = fine.by 0 [] [] in
+    fine.by 0 [] []
+
+pub never_stuck : (stats : List Stat) → IsBlock [] stats → (n : ℕ) (r : Report (List ℕ) source.Look) → SourceRun stats n r → r.end ≢ Stuck
+never_stuck stats form n r run =
+    let o = has_report stats form n in
     let same = one_report (List ℕ) source.Look State source.step (start stats) n o.0 r o.1 run in
     subst (λ q. q.end ≢ Stuck) same o.2

@@ -1,5 +1,5 @@
 -- What the compiler promises.
-use Rattle.std.specs.Prelude.{◌≢◌, ℕ, List}
+use Rattle.std.specs.Prelude.{◌≢◌, ℕ, List, []}
 use Rattle.syntax_tree.specs.declared.tree.Stat.{Stat}
 use Rattle.value_model.specs.declared.end.End.TheVariants.{Stuck}
 use Rattle.value_model.specs.Runs.{Report, Agree}
@@ -8,6 +8,7 @@ use Rattle.source_meaning.specs.Runs.{SourceRun}
 use Rattle.machine_meaning.specs.declared.code.Constant.{Constant}
 use Rattle.machine_meaning.specs.Steps as machine
 use Rattle.machine_meaning.specs.Runs.{MachineRun}
+use Rattle.emit_stat.specs.Form.{IsBlock}
 
 -- each table that is asked counts one
 abbrev pub SameRun : Report (List ℕ) source.Look → Report (List ℕ) machine.Look → Type 0
@@ -20,3 +21,7 @@ pub record Behaves (body : List Stat) (words : List ℕ) (ks : List Constant) : 
   pub to_source : (n : ℕ) (q : Report (List ℕ) machine.Look) → MachineRun words ks n q → (r : Report (List ℕ) source.Look) × SourceRun body n r × SameRun r q
   pub ends : (n : ℕ) → (r : Report (List ℕ) source.Look) × SourceRun body n r
   pub sound : (n : ℕ) (r : Report (List ℕ) source.Look) → SourceRun body n r → r.end ≢ Stuck
+
+-- Each script of the form has a report with each bound on its turns, and is not stuck there.
+abbrev pub RunsHaveReports : Type 0
+RunsHaveReports = (body : List Stat) → IsBlock [] body → (n : ℕ) → (r : Report (List ℕ) source.Look) × SourceRun body n r × (r.end ≢ Stuck)

@@ -2,11 +2,13 @@
 #![tactic(auto)]
 
 mod draft;
+mod laws;
 mod scope;
 mod script;
 mod statements;
 mod values;
 
+pub use laws::has_report;
 pub use script::compile;
 
 #[cfg(test)]

@@ -1,0 +1,5 @@
+use Rattle.emit_stat.proofs.NeverStuck.{has_report}
+use Rattle.emit_stat.proofs.laws.has_report.Goals as goal
+
+pub returns : goal.returns
+returns c = has_report
