@@ -1,0 +1,10 @@
+pub mod Words
+pub mod Levels
+pub mod Classes
+pub mod Items
+pub mod Turns
+pub mod Steps
+pub mod Openings
+pub mod CallPlaces
+pub mod OtherNest
+pub mod Laws
