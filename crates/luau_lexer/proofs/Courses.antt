@@ -1,5 +1,5 @@
 -- How far a text was read, with its tokens so far.
-use Rattle.std.proofs.Common.{◌≡◌, ℕ, ◌<◌, List, [], ◌∷◌, ◌++◌, length, refl, sym, ap, subst, arith, length-drop}
+use Rattle.std.proofs.Common.{◌≡◌, ℕ, ◌<◌, List, [], ◌∷◌, ◌++◌, length, refl, sym, ap, subst, ◌∙◌, arith, length-drop}
 use Rattle.byte_text.specs.declared.StrId.{StrId}
 use Rattle.syntax_tree.specs.declared.token.Token.{Token}
 use Rattle.syntax_tree.specs.declared.token.TokenKind.{TokenKind}
@@ -9,7 +9,7 @@ use Rattle.luau_lexer.specs.declared.form.Form.{Form}
 use Rattle.luau_lexer.specs.declared.form.Opener.{Opener}
 use Rattle.luau_lexer.specs.Plain.{Word, Fixed, Named, Numeral, Text, BeginPiece, MidPiece, EndPiece, WholePiece}
 use Rattle.luau_lexer.specs.Spellings.{Place, start, Step, Gap, Lexeme, Passes, Ends, Fails, behind, form_of, Stands, StandInTurn, Spelled, spelled, tokens_of, Spells, HasFault}
-use Rattle.luau_lexer.specs.Tokens.{IsTexted, IsKind, IsToken, AreTokens, Keeps, IsRefusal}
+use Rattle.luau_lexer.specs.Tokens.{IsTexted, IsKind, IsToken, AreTokens, Keeps, IsRefusal, texts_behind, texts_after}
 use Rattle.luau_lexer.specs.Finding.{FindsGap, FindsToken, Refuses}
 
 -- ---- one more
@@ -36,6 +36,10 @@ tokens_more texts (x ∷ ss) [] s t h is = absurd h
 tokens_more texts (x ∷ ss) (y ∷ ts) s t h is = (h.0, tokens_more texts ss ts s t h.1 is)
 
 -- ---- more texts
+
+texts_more : (texts : List (List ℕ)) (ss : List Spelled) (s : Spelled) → texts_after texts (ss ++ s ∷ []) ≡ texts_behind (texts_after texts ss) s.word
+texts_more texts [] s = refl
+texts_more texts (x ∷ ss) s = texts_more (texts_behind texts x.word) ss s
 
 texted_kept : (old new : List (List ℕ)) (of : StrId → TokenKind) (text : List ℕ) (kind : TokenKind) → Keeps old new → IsTexted old of text kind → IsTexted new of text kind
 texted_kept old new of text kind k h = record { id = h.id; is = h.is; there = k.at h.id.0 text h.there }
@@ -64,6 +68,7 @@ pub record HasRead (bytes : List ℕ) (place : Place) (before texts : List (List
   pub steps : List Step
   pub turn : StandInTurn (start bytes) steps place
   pub tokens_are : AreTokens texts (tokens_of (start bytes) steps) tokens
+  pub texts_are : texts ≡ texts_after before (tokens_of (start bytes) steps)
   pub kept : Keeps before texts
 
 module _ (bytes : List ℕ) (p : Place) (before texts : List (List ℕ)) (tokens : List Token) where
@@ -72,34 +77,41 @@ module _ (bytes : List ℕ) (p : Place) (before texts : List (List ℕ)) (tokens
     steps = [];
     turn = sym is;
     tokens_are = subst (AreTokens texts []) (sym none) tt;
+    texts_are = sym same;
     kept = subst (Keeps before) same (record { at = λ i. λ t. λ h. h });
   }
 
   kept_more : (new : List (List ℕ)) → Keeps before texts → Keeps texts new → Keeps before new
   kept_more new h k = record { at = λ i. λ t. λ there. k.at i t (h.at i t there) }
 
-  pub read_gap : (q : Place) (new : List (List ℕ)) → HasRead bytes p before texts tokens → FindsGap (form_of p.bytes p.braces) p q → Keeps texts new → HasRead bytes q before new tokens
+  pub read_gap : (q : Place) (new : List (List ℕ)) → HasRead bytes p before texts tokens → FindsGap (form_of p.bytes p.braces) p q → new ≡ texts → Keeps texts new → HasRead bytes q before new tokens
   unfolding kept_more
-  read_gap q new r f k = record {
+  read_gap q new r f same k = record {
     steps = r.steps ++ Gap f.len ∷ [];
     turn = subst (StandInTurn (start bytes) (r.steps ++ Gap f.len ∷ [])) (sym f.to) (turn_more (start bytes) p r.steps (Gap f.len) r.turn f.stands);
     tokens_are = subst (λ (l : List Spelled). AreTokens new l tokens) (sym (gap_more (start bytes) p r.steps f.len r.turn)) (tokens_kept texts new (tokens_of (start bytes) r.steps) tokens k r.tokens_are);
+    texts_are = same ∙ r.texts_are ∙ ap (texts_after before) (sym (gap_more (start bytes) p r.steps f.len r.turn));
     kept = kept_more new r.kept k;
   }
 
-  pub read_token : (q : Place) (new : List (List ℕ)) (token : Token) (all : List Token) → all ≡ tokens ++ token ∷ [] → HasRead bytes p before texts tokens → FindsToken (form_of p.bytes p.braces) p q new token → Keeps texts new → HasRead bytes q before new all
+  pub read_token : (q : Place) (new : List (List ℕ)) (token : Token) (all : List Token) → all ≡ tokens ++ token ∷ [] → HasRead bytes p before texts tokens → FindsToken (form_of p.bytes p.braces) p q texts new token → Keeps texts new → HasRead bytes q before new all
   unfolding kept_more
   read_token q new token all is r f k = record {
     steps = r.steps ++ Lexeme f.word f.len q.braces ∷ [];
     turn = subst (StandInTurn (start bytes) (r.steps ++ Lexeme f.word f.len q.braces ∷ [])) (sym f.to) (turn_more (start bytes) p r.steps (Lexeme f.word f.len q.braces) r.turn f.stands);
     tokens_are = subst (AreTokens new (tokens_of (start bytes) (r.steps ++ Lexeme f.word f.len q.braces ∷ []))) (sym is) (subst (λ (l : List Spelled). AreTokens new l (tokens ++ token ∷ [])) (sym (lexeme_more (start bytes) p r.steps f.word f.len q.braces r.turn)) (tokens_more new (tokens_of (start bytes) r.steps) tokens (spelled p f.word f.len) token (tokens_kept texts new (tokens_of (start bytes) r.steps) tokens k r.tokens_are) f.is_token));
+    texts_are =
+        f.notes
+        ∙ ap (λ l. texts_behind l f.word) r.texts_are
+        ∙ sym (texts_more before (tokens_of (start bytes) r.steps) (spelled p f.word f.len))
+        ∙ ap (texts_after before) (sym (lexeme_more (start bytes) p r.steps f.word f.len q.braces r.turn));
     kept = kept_more new r.kept k;
   }
 
   -- the whole text is read
-  pub read_all : (new : List (List ℕ)) → HasRead bytes p before texts tokens → Stands p Ends → Keeps texts new → (all : List Spelled) × Spells bytes all × AreTokens new all tokens
-  read_all new r h k =
-      (tokens_of (start bytes) r.steps, record { steps = r.steps; to = p; turn = r.turn; «end» = h; tokens_are = refl }, tokens_kept texts new (tokens_of (start bytes) r.steps) tokens k r.tokens_are)
+  pub read_all : (new : List (List ℕ)) → HasRead bytes p before texts tokens → Stands p Ends → new ≡ texts → Keeps texts new → (all : List Spelled) × Spells bytes all × AreTokens new all tokens × (new ≡ texts_after before all)
+  read_all new r h same k =
+      (tokens_of (start bytes) r.steps, record { steps = r.steps; to = p; turn = r.turn; «end» = h; tokens_are = refl }, tokens_kept texts new (tokens_of (start bytes) r.steps) tokens k r.tokens_are, same ∙ r.texts_are)
 
   -- the text has a fault here
   fails_here : (fault : LexErr) → HasRead bytes p before texts tokens → Stands p (Fails fault) → HasFault bytes fault
@@ -121,6 +133,6 @@ module _ (bytes : List ℕ) (p : Place) (before texts : List (List ℕ)) (tokens
 pub gap_shortens : (form : Form) (p q : Place) → FindsGap form p q → length q.bytes < length p.bytes
 gap_shortens form p q f = omega (arith, ap (λ r. length r.bytes) f.to, length-drop f.len p.bytes, f.some, f.within)
 
-pub token_shortens : (form : Form) (p q : Place) (texts : List (List ℕ)) (token : Token) → FindsToken form p q texts token → length q.bytes < length p.bytes
-token_shortens form p q texts token f =
+pub token_shortens : (form : Form) (p q : Place) (old new : List (List ℕ)) (token : Token) → FindsToken form p q old new token → length q.bytes < length p.bytes
+token_shortens form p q old new token f =
     omega (arith, ap (λ r. length r.bytes) f.to, length-drop f.len p.bytes, f.some, f.within)

@@ -1,6 +1,7 @@
 -- What the lexer finds, from what its functions answer.
 use Rattle.std.proofs.Common.{◌≡◌, ℕ, ◌+◌, ◌<◌, ◌≤◌, nat_eq, Bool, true, false, cond, List, [], ◌∷◌, ◌++◌, length, take, drop, Option, None, Some, option_map, slice_get, refl, sym, ap, subst, ◌∙◌, arith}
 use Rattle.std.proofs.lemmas.Option.{same_Some, none-some}
+use Rattle.byte_text.specs.Texts.{noted}
 use Rattle.byte_text.specs.declared.StrId.{StrId}
 use Rattle.whole_num.specs.Literals.{ReadsLiteral}
 use Rattle.whole_num.specs.declared.literal.Read.{Read}
@@ -19,7 +20,7 @@ use Rattle.luau_lexer.specs.Bytes.{line_feeds, begins}
 use Rattle.luau_lexer.specs.Plain.{Word, Fixed, Text, symbol_at, name_len, number_len, word_of, BeginPiece, MidPiece, EndPiece, WholePiece, word_as}
 use Rattle.luau_lexer.specs.Strings.{Body, Closed, Unclosed, Broken, HasBody, long_text}
 use Rattle.luau_lexer.specs.Spellings.{Place, What, Passes, Fails, Lexeme, StandsAs, StandsAsString, further, number, symbol, long_string, braces_behind, quoted, first_piece, next_piece, ends_piece, begins_two_braces, outer}
-use Rattle.luau_lexer.specs.Tokens.{IsKind}
+use Rattle.luau_lexer.specs.Tokens.{IsKind, texts_behind}
 use Rattle.luau_lexer.specs.Finding.{Finds, Refuses, FailsAsString, RefusesString, OpensExpression, IsDoubleBrace}
 use Rattle.luau_lexer.specs.Gaps.{closing_place}
 use Rattle.luau_lexer.specs.declared.plain.Symbol.{Symbol}
@@ -36,9 +37,9 @@ token_at p kind len = record {
 }
 
 -- a token is found where its word stands
-pub finds_token : (form : Form) (p q : Place) (braces : List Opener) (texts : List (List ℕ)) (word : Word) (kind : TokenKind) (len : ℕ) (f : Found) → f ≡ found.Next (token_at p kind len) → q ≡ further len braces p → StandsAs form p (Passes (Lexeme word len braces)) → 0 < len → len ≤ length p.bytes → IsKind texts word kind → Finds form p q texts f
-finds_token form p q braces texts word kind len f is to stands some within kinds =
-    subst (Finds form p q texts) (sym is) (record {
+pub finds_token : (form : Form) (p q : Place) (braces : List Opener) (old texts : List (List ℕ)) (word : Word) (kind : TokenKind) (len : ℕ) (f : Found) → f ≡ found.Next (token_at p kind len) → q ≡ further len braces p → StandsAs form p (Passes (Lexeme word len braces)) → 0 < len → len ≤ length p.bytes → IsKind texts word kind → texts ≡ texts_behind old word → Finds form p q old texts f
+finds_token form p q braces old texts word kind len f is to stands some within kinds notes =
+    subst (Finds form p q old texts) (sym is) (record {
       word = word;
       len = len;
       stands = subst (λ (b : List Opener). StandsAs form p (Passes (Lexeme word len b))) (sym (ap (λ r. r.braces) to)) stands;
@@ -46,6 +47,7 @@ finds_token form p q braces texts word kind len f is to stands some within kinds
       within = within;
       to = to ∙ ap (λ b. further len b p) (sym (ap (λ r. r.braces) to));
       is_token = record { kind = kinds; at = refl; «end» = refl; line = refl; last = refl };
+      notes = notes;
     })
 
 -- ---- names
@@ -57,6 +59,14 @@ reserved_kind texts word (Some e) kind k h is = is ∙ same_Some k e.1 h
 pub name_kind : (texts : List (List ℕ)) (word : List ℕ) (o : Option Entry) (k : TokenKind) (id : StrId) → None ≡ option_map (λ (e : Entry). e.1) o → k ≡ Name id → slice_get texts id.0 ≡ Some word → IsKind texts (word_as word o) k
 name_kind texts word None k id h is at = record { id = id; is = is; there = at }
 name_kind texts word (Some e) k id h is at = absurd (none-some e.1 h)
+
+pub reserved_notes : (texts : List (List ℕ)) (word : List ℕ) (o : Option Entry) (k : TokenKind) → Some k ≡ option_map (λ e. e.1) o → texts ≡ texts_behind texts (word_as word o)
+reserved_notes texts word None k h = absurd (none-some k (sym h))
+reserved_notes texts word (Some e) k h = refl
+
+pub name_notes : (old texts : List (List ℕ)) (word : List ℕ) (o : Option Entry) → None ≡ option_map (λ (e : Entry). e.1) o → texts ≡ noted old word → texts ≡ texts_behind old (word_as word o)
+name_notes old texts word None h is = is
+name_notes old texts word (Some e) h is = absurd (none-some e.1 h)
 
 -- ---- strings
 
@@ -128,9 +138,9 @@ named_stands : (p : Place) (make : List ℕ → Word) (len n : ℕ) (word : List
 named_stands p make len n word w e =
     ap (λ t. Passes (Lexeme (make t) len p.braces)) w ∙ ap (λ m. Passes (Lexeme (make (take m p.bytes)) m p.braces)) e
 
-pub finds_name : (p q : Place) (texts : List (List ℕ)) (kind : TokenKind) (len : ℕ) (word : List ℕ) (f : Found) → f ≡ found.Next (token_at p kind len) → q ≡ further len p.braces p → word ≡ take len p.bytes → len ≡ name_len p.bytes → 0 < name_len p.bytes → len ≤ length p.bytes → IsKind texts (word_of word) kind → Finds form.Name p q texts f
-finds_name p q texts kind len word f is to w e some within kinds =
-    finds_token form.Name p q p.braces texts (word_of word) kind len f is to (named_stands p word_of len (name_len p.bytes) word w e) (omega (arith, e)) within kinds
+pub finds_name : (p q : Place) (old texts : List (List ℕ)) (kind : TokenKind) (len : ℕ) (word : List ℕ) (f : Found) → f ≡ found.Next (token_at p kind len) → q ≡ further len p.braces p → word ≡ take len p.bytes → len ≡ name_len p.bytes → 0 < name_len p.bytes → len ≤ length p.bytes → IsKind texts (word_of word) kind → texts ≡ texts_behind old (word_of word) → Finds form.Name p q old texts f
+finds_name p q old texts kind len word f is to w e some within kinds notes =
+    finds_token form.Name p q p.braces old texts (word_of word) kind len f is to (named_stands p word_of len (name_len p.bytes) word w e) (omega (arith, e)) within kinds notes
 
 -- a symbol
 symbol_stands : (p : Place) (s : Symbol) (o : Option Entry) → IsEntry s o → Passes (Lexeme (Fixed s.kind) s.len (braces_behind s.kind p.braces)) ≡ symbol p o
@@ -145,10 +155,10 @@ symbol_len_fits p s h =
     let fits = symbol_fits p.bytes e.entry e.there in
     (omega (arith, e.len, fits.0), omega (arith, e.len, fits.1))
 
-pub finds_symbol : (p m q : Place) (s : Symbol) (f : Found) → m ≡ record p { braces = braces_behind s.kind p.braces } → f ≡ found.Next (token_at m s.kind s.len) → q ≡ further s.len m.braces m → Some s ≡ option_map read_symbol (symbol_at p.bytes) → Finds form.Symbol p q [] f
-finds_symbol p m q s f noted is to h =
+pub finds_symbol : (p m q : Place) (texts : List (List ℕ)) (s : Symbol) (f : Found) → m ≡ record p { braces = braces_behind s.kind p.braces } → f ≡ found.Next (token_at m s.kind s.len) → q ≡ further s.len m.braces m → Some s ≡ option_map read_symbol (symbol_at p.bytes) → Finds form.Symbol p q texts texts f
+finds_symbol p m q texts s f noted is to h =
     let fits = symbol_len_fits p s h in
-    finds_token form.Symbol p q (braces_behind s.kind p.braces) [] (Fixed s.kind) s.kind s.len f (is ∙ ap (λ r. found.Next (token_at r s.kind s.len)) noted) (to ∙ ap (λ r. further s.len r.braces r) noted) (symbol_stands p s (symbol_at p.bytes) (entry_read s (symbol_at p.bytes) h)) fits.0 fits.1 refl
+    finds_token form.Symbol p q (braces_behind s.kind p.braces) texts texts (Fixed s.kind) s.kind s.len f (is ∙ ap (λ r. found.Next (token_at r s.kind s.len)) noted) (to ∙ ap (λ r. further s.len r.braces r) noted) (symbol_stands p s (symbol_at p.bytes) (entry_read s (symbol_at p.bytes) h)) fits.0 fits.1 refl refl
 
 -- a long string
 pub long_string_stands : (p : Place) (level k : ℕ) (after inner text : List ℕ) → after ≡ drop (level + 2) p.bytes → Some k ≡ closing_place level after → inner ≡ take k after → text ≡ long_text inner → StandsAs (form.LongString level) p (Passes (Lexeme (Text text) (level + 2 + k + (level + 2)) p.braces))
@@ -157,26 +167,26 @@ long_string_stands p level k after inner text a closes i t =
     ∙ sym (ap (long_string p level) (sym (closes ∙ ap (closing_place level) a)))
 
 -- a quoted string
-pub finds_quoted : (p q : Place) (texts : List (List ℕ)) (quote : ℕ) (id : StrId) (text : List ℕ) (len : ℕ) (f : Found) → f ≡ found.Next (token_at p (Str id) (len + 2)) → q ≡ further (len + 2) p.braces p → HasBody (λ b. nat_eq b quote) (drop 1 p.bytes) (Closed text len) → 1 + len < length p.bytes → slice_get texts id.0 ≡ Some text → Finds (form.Quoted quote) p q texts f
-finds_quoted p q texts quote id text len f is to has within there =
-    finds_token (form.Quoted quote) p q p.braces texts (Text text) (Str id) (len + 2) f is to (record { body = Closed text len; has_body = has; is = refl }) (omega arith) (omega arith) (record { id = id; is = refl; there = there })
+pub finds_quoted : (p q : Place) (old texts : List (List ℕ)) (quote : ℕ) (id : StrId) (text : List ℕ) (len : ℕ) (f : Found) → f ≡ found.Next (token_at p (Str id) (len + 2)) → q ≡ further (len + 2) p.braces p → HasBody (λ b. nat_eq b quote) (drop 1 p.bytes) (Closed text len) → 1 + len < length p.bytes → slice_get texts id.0 ≡ Some text → texts ≡ noted old text → Finds (form.Quoted quote) p q old texts f
+finds_quoted p q old texts quote id text len f is to has within there notes =
+    finds_token (form.Quoted quote) p q p.braces old texts (Text text) (Str id) (len + 2) f is to (record { body = Closed text len; has_body = has; is = refl }) (omega arith) (omega arith) (record { id = id; is = refl; there = there }) notes
 
 -- pieces
-pub finds_begin : (p m q : Place) (texts : List (List ℕ)) (id : StrId) (text : List ℕ) (len : ℕ) (f : Found) → m ≡ record p { braces = p.braces ++ opener.Piece ∷ [] } → f ≡ found.Next (token_at m (InterpBegin id) (len + 2)) → q ≡ further (len + 2) m.braces m → HasBody ends_piece (drop 1 p.bytes) (Closed text len) → OpensExpression p len true → 1 + len < length p.bytes → slice_get texts id.0 ≡ Some text → Finds form.FirstPiece p q texts f
-finds_begin p m q texts id text len f noted is to has opens within there =
-    finds_token form.FirstPiece p q (p.braces ++ opener.Piece ∷ []) texts (BeginPiece text) (InterpBegin id) (len + 2) f (is ∙ ap (λ r. found.Next (token_at r (InterpBegin id) (len + 2))) noted) (to ∙ ap (λ r. further (len + 2) r.braces r) noted) (first_passes p text len true _ has opens refl) (omega arith) (omega arith) (record { id = id; is = refl; there = there })
+pub finds_begin : (p m q : Place) (old texts : List (List ℕ)) (id : StrId) (text : List ℕ) (len : ℕ) (f : Found) → m ≡ record p { braces = p.braces ++ opener.Piece ∷ [] } → f ≡ found.Next (token_at m (InterpBegin id) (len + 2)) → q ≡ further (len + 2) m.braces m → HasBody ends_piece (drop 1 p.bytes) (Closed text len) → OpensExpression p len true → 1 + len < length p.bytes → slice_get texts id.0 ≡ Some text → texts ≡ noted old text → Finds form.FirstPiece p q old texts f
+finds_begin p m q old texts id text len f noted is to has opens within there notes =
+    finds_token form.FirstPiece p q (p.braces ++ opener.Piece ∷ []) old texts (BeginPiece text) (InterpBegin id) (len + 2) f (is ∙ ap (λ r. found.Next (token_at r (InterpBegin id) (len + 2))) noted) (to ∙ ap (λ r. further (len + 2) r.braces r) noted) (first_passes p text len true _ has opens refl) (omega arith) (omega arith) (record { id = id; is = refl; there = there }) notes
 
-pub finds_whole : (p q : Place) (texts : List (List ℕ)) (id : StrId) (text : List ℕ) (len : ℕ) (f : Found) → f ≡ found.Next (token_at p (InterpWhole id) (len + 2)) → q ≡ further (len + 2) p.braces p → HasBody ends_piece (drop 1 p.bytes) (Closed text len) → OpensExpression p len false → 1 + len < length p.bytes → slice_get texts id.0 ≡ Some text → Finds form.FirstPiece p q texts f
-finds_whole p q texts id text len f is to has opens within there =
-    finds_token form.FirstPiece p q p.braces texts (WholePiece text) (InterpWhole id) (len + 2) f is to (first_passes p text len false _ has opens refl) (omega arith) (omega arith) (record { id = id; is = refl; there = there })
+pub finds_whole : (p q : Place) (old texts : List (List ℕ)) (id : StrId) (text : List ℕ) (len : ℕ) (f : Found) → f ≡ found.Next (token_at p (InterpWhole id) (len + 2)) → q ≡ further (len + 2) p.braces p → HasBody ends_piece (drop 1 p.bytes) (Closed text len) → OpensExpression p len false → 1 + len < length p.bytes → slice_get texts id.0 ≡ Some text → texts ≡ noted old text → Finds form.FirstPiece p q old texts f
+finds_whole p q old texts id text len f is to has opens within there notes =
+    finds_token form.FirstPiece p q p.braces old texts (WholePiece text) (InterpWhole id) (len + 2) f is to (first_passes p text len false _ has opens refl) (omega arith) (omega arith) (record { id = id; is = refl; there = there }) notes
 
-pub finds_mid : (p q : Place) (texts : List (List ℕ)) (id : StrId) (text : List ℕ) (len : ℕ) (f : Found) → f ≡ found.Next (token_at p (InterpMid id) (len + 2)) → q ≡ further (len + 2) p.braces p → HasBody ends_piece (drop 1 p.bytes) (Closed text len) → OpensExpression p len true → 1 + len < length p.bytes → slice_get texts id.0 ≡ Some text → Finds form.NextPiece p q texts f
-finds_mid p q texts id text len f is to has opens within there =
-    finds_token form.NextPiece p q p.braces texts (MidPiece text) (InterpMid id) (len + 2) f is to (next_passes p text len true _ has opens refl) (omega arith) (omega arith) (record { id = id; is = refl; there = there })
+pub finds_mid : (p q : Place) (old texts : List (List ℕ)) (id : StrId) (text : List ℕ) (len : ℕ) (f : Found) → f ≡ found.Next (token_at p (InterpMid id) (len + 2)) → q ≡ further (len + 2) p.braces p → HasBody ends_piece (drop 1 p.bytes) (Closed text len) → OpensExpression p len true → 1 + len < length p.bytes → slice_get texts id.0 ≡ Some text → texts ≡ noted old text → Finds form.NextPiece p q old texts f
+finds_mid p q old texts id text len f is to has opens within there notes =
+    finds_token form.NextPiece p q p.braces old texts (MidPiece text) (InterpMid id) (len + 2) f is to (next_passes p text len true _ has opens refl) (omega arith) (omega arith) (record { id = id; is = refl; there = there }) notes
 
-pub finds_end : (p m q : Place) (texts : List (List ℕ)) (id : StrId) (text : List ℕ) (len : ℕ) (f : Found) → m ≡ record p { braces = outer p.braces } → f ≡ found.Next (token_at m (InterpEnd id) (len + 2)) → q ≡ further (len + 2) m.braces m → HasBody ends_piece (drop 1 p.bytes) (Closed text len) → OpensExpression p len false → 1 + len < length p.bytes → slice_get texts id.0 ≡ Some text → Finds form.NextPiece p q texts f
-finds_end p m q texts id text len f noted is to has opens within there =
-    finds_token form.NextPiece p q (outer p.braces) texts (EndPiece text) (InterpEnd id) (len + 2) f (is ∙ ap (λ r. found.Next (token_at r (InterpEnd id) (len + 2))) noted) (to ∙ ap (λ r. further (len + 2) r.braces r) noted) (next_passes p text len false _ has opens refl) (omega arith) (omega arith) (record { id = id; is = refl; there = there })
+pub finds_end : (p m q : Place) (old texts : List (List ℕ)) (id : StrId) (text : List ℕ) (len : ℕ) (f : Found) → m ≡ record p { braces = outer p.braces } → f ≡ found.Next (token_at m (InterpEnd id) (len + 2)) → q ≡ further (len + 2) m.braces m → HasBody ends_piece (drop 1 p.bytes) (Closed text len) → OpensExpression p len false → 1 + len < length p.bytes → slice_get texts id.0 ≡ Some text → texts ≡ noted old text → Finds form.NextPiece p q old texts f
+finds_end p m q old texts id text len f noted is to has opens within there notes =
+    finds_token form.NextPiece p q (outer p.braces) old texts (EndPiece text) (InterpEnd id) (len + 2) f (is ∙ ap (λ r. found.Next (token_at r (InterpEnd id) (len + 2))) noted) (to ∙ ap (λ r. further (len + 2) r.braces r) noted) (next_passes p text len false _ has opens refl) (omega arith) (omega arith) (record { id = id; is = refl; there = there }) notes
 
 -- a number, and each of its faults
 pub number_stands : (p : Place) (len : ℕ) (word : List ℕ) (value : Read) (what : What) → word ≡ take len p.bytes → len ≡ number_len p.bytes → ReadsLiteral word value → what ≡ number p len value → StandsAs form.Number p what

@@ -7,6 +7,7 @@ pub mod EachString
 pub mod Exact
 pub mod Findings
 pub mod OneReading
+pub mod OneTokenList
 pub mod Tables
 pub mod Texts
 pub mod UniquePlaces

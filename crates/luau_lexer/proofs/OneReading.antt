@@ -67,7 +67,7 @@ each_reading bytes = by c.what c.stands c.stop
 
 -- ---- no other
 
-tokens_once : (bytes : List ℕ) (ts us : List Spelled) → Spells bytes ts → Spells bytes us → ts ≡ us
+pub tokens_once : (bytes : List ℕ) (ts us : List Spelled) → Spells bytes ts → Spells bytes us → ts ≡ us
 tokens_once bytes ts us g h =
     let same = turn_once (start bytes) g.steps h.steps g.to h.to Ends Ends g.turn h.turn g.end h.end tt tt in
     g.tokens_are ∙ ap (tokens_of (start bytes)) same.0 ∙ sym h.tokens_are
@@ -76,7 +76,7 @@ fault_once : (bytes : List ℕ) (e f : LexErr) → HasFault bytes e → HasFault
 fault_once bytes e f g h =
     let same = (turn_once (start bytes) g.steps h.steps g.to h.to (Fails e) (Fails f) g.turn h.turn g.fails h.fails tt tt).1 in cc
 
-not_both : (bytes : List ℕ) (ts : List Spelled) (e : LexErr) → Spells bytes ts → HasFault bytes e → ⊥
+pub not_both : (bytes : List ℕ) (ts : List Spelled) (e : LexErr) → Spells bytes ts → HasFault bytes e → ⊥
 not_both bytes ts e g h =
     let same = (turn_once (start bytes) g.steps h.steps g.to h.to Ends (Fails e) g.turn h.turn g.end h.fails tt tt).1 in cc
 

@@ -14,7 +14,7 @@ use Rattle.luau_lexer.specs.Strings.{Body, HasBody}
 use Rattle.luau_lexer.specs.Strings as strings
 use Rattle.luau_lexer.specs.Plain.{Word, name_len, number_len}
 use Rattle.luau_lexer.specs.Spellings.{Place, Gap, Lexeme, Passes, Ends, Fails, StandsAs, further, spelled, quoted, begins_two_braces}
-use Rattle.luau_lexer.specs.Tokens.{IsToken}
+use Rattle.luau_lexer.specs.Tokens.{IsToken, texts_behind}
 
 -- there is room for what a form takes
 abbrev pub IsRoomFor : Form → (bytes : List ℕ) → Type 0
@@ -35,21 +35,22 @@ pub record FindsGap (form : Form) (p q : Place) : Type 0 where
   pub within : len ≤ length p.bytes
   pub to : q ≡ further len p.braces p
 
--- a token of some bytes was passed
-pub record FindsToken (form : Form) (p q : Place) (texts : List (List ℕ)) (token : Token) : Type 0 where
+-- a token of some bytes was passed, and its text noted
+pub record FindsToken (form : Form) (p q : Place) (old new : List (List ℕ)) (token : Token) : Type 0 where
   pub word : Word
   pub len : ℕ
   pub stands : StandsAs form p (Passes (Lexeme word len q.braces))
   pub some : 0 < len
   pub within : len ≤ length p.bytes
   pub to : q ≡ further len q.braces p
-  pub is_token : IsToken texts (spelled p word len) token
+  pub is_token : IsToken new (spelled p word len) token
+  pub notes : new ≡ texts_behind old word
 
--- what was found at a place, if its form is this, and where the lexer is then
-abbrev pub Finds : Form → (p q : Place) → (texts : List (List ℕ)) → Found → Type 0
-Finds form p q texts found.Passed = FindsGap form p q
-Finds form p q texts (found.Next token) = FindsToken form p q texts token
-Finds form p q texts found.Finished = StandsAs form p Ends
+-- what was found at a place, if its form is this, and where the lexer is then; the texts with numbers before and then
+abbrev pub Finds : Form → (p q : Place) → (old new : List (List ℕ)) → Found → Type 0
+Finds form p q old new found.Passed = FindsGap form p q × (new ≡ old)
+Finds form p q old new (found.Next token) = FindsToken form p q old new token
+Finds form p q old new found.Finished = StandsAs form p Ends × (new ≡ old)
 
 -- a fault stands at a place, if its form is this
 abbrev pub Refuses : Form → Place → LexErr → Type 0

@@ -6,7 +6,7 @@ use Rattle.syntax_tree.specs.declared.token.Token.{Token}
 use Rattle.luau_lexer.specs.declared.error.LexErr.{LexErr}
 use Rattle.luau_lexer.specs.declared.error.LexErr.TheVariants.{OutOfMemory}
 use Rattle.luau_lexer.specs.Spellings.{Spelled, Spells, HasFault}
-use Rattle.luau_lexer.specs.Tokens.{AreTokens}
+use Rattle.luau_lexer.specs.Tokens.{AreTokens, HasTokens}
 
 -- the tokens of a text, or its fault
 pub data Reading : Type 0 where
@@ -26,6 +26,10 @@ pub record HasOneReading (bytes : List ℕ) : Type 0 where
 -- each text has either one list of tokens or one fault
 pub record AllHaveOneReading : Type 0 where
   pub each : (bytes : List ℕ) → HasOneReading bytes
+
+-- a text has at most one list of tokens, the numbers of their texts among them
+pub record TokenListsAreOne : Type 0 where
+  pub same : (bytes : List ℕ) (ts us : List Token) → HasTokens bytes ts → HasTokens bytes us → ts ≡ us
 
 -- an answer is what a text's reading says, unless memory ran out
 abbrev pub Answers : (texts : List (List ℕ)) → Reading → Result (Vec Token Global) LexErr → Type 0

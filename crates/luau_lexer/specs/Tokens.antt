@@ -1,5 +1,6 @@
--- Tokens with the numbers of their texts.
+-- Tokens with the numbers of their texts, and how an interner gets these.
 use Rattle.std.specs.Prelude.{◌≡◌, ℕ, List, [], ◌∷◌, Some, slice_get}
+use Rattle.byte_text.specs.Texts.{fixed_texts, noted}
 use Rattle.byte_text.specs.declared.StrId.{StrId}
 use Rattle.syntax_tree.specs.declared.token.Token.{Token}
 use Rattle.syntax_tree.specs.declared.token.TokenKind.{TokenKind}
@@ -7,7 +8,7 @@ use Rattle.syntax_tree.specs.declared.token.TokenKind.TheVariants.{Name, Number,
 use Rattle.luau_lexer.specs.declared.error.LexErr.{LexErr}
 use Rattle.luau_lexer.specs.declared.error.LexErr.TheVariants.{OutOfMemory}
 use Rattle.luau_lexer.specs.Plain.{Word, Fixed, Named, Numeral, Text, BeginPiece, MidPiece, EndPiece, WholePiece}
-use Rattle.luau_lexer.specs.Spellings.{Spelled, HasFault}
+use Rattle.luau_lexer.specs.Spellings.{Spelled, Spells, HasFault}
 
 -- a kind of token with the number of a text
 pub record IsTexted (texts : List (List ℕ)) (of : StrId → TokenKind) (text : List ℕ) (kind : TokenKind) : Type 0 where
@@ -38,6 +39,28 @@ abbrev pub AreTokens : (texts : List (List ℕ)) → List Spelled → List Token
 AreTokens texts [] [] = Unit {0}
 AreTokens texts (s ∷ ss) (t ∷ ts) = IsToken texts s t × AreTokens texts ss ts
 AreTokens texts _ _ = ⊥
+
+-- the texts with numbers behind a word: if it carries a text, that is noted
+abbrev pub texts_behind : List (List ℕ) → Word → List (List ℕ)
+texts_behind texts (Fixed k) = texts
+texts_behind texts (Named text) = noted texts text
+texts_behind texts (Numeral n) = texts
+texts_behind texts (Text text) = noted texts text
+texts_behind texts (BeginPiece text) = noted texts text
+texts_behind texts (MidPiece text) = noted texts text
+texts_behind texts (EndPiece text) = noted texts text
+texts_behind texts (WholePiece text) = noted texts text
+
+-- the texts with numbers after the tokens of a text, in order
+abbrev pub texts_after : List (List ℕ) → List Spelled → List (List ℕ)
+texts_after texts [] = texts
+texts_after texts (s ∷ ss) = texts_after (texts_behind texts s.word) ss
+
+-- the tokens of a text, with the numbers that an interner gives that held the fixed texts alone
+pub record HasTokens (bytes : List ℕ) (tokens : List Token) : Type 0 where
+  pub spelled : List Spelled
+  pub spells : Spells bytes spelled
+  pub tokens_are : AreTokens (texts_after fixed_texts spelled) spelled tokens
 
 -- each text that has a number keeps it
 pub record Keeps (old new : List (List ℕ)) : Type 0 where

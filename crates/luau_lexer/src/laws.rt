@@ -1,8 +1,13 @@
 //! What holds of the definitions.
 
-ghost use Rattle.luau_lexer.specs.Laws.{AllHaveOneReading};
+ghost use Rattle.luau_lexer.specs.Laws.{AllHaveOneReading, TokenListsAreOne};
 
 /// Each text has either one list of tokens or one fault.
 pub fn one_reading()
     ensures { AllHaveOneReading }
+{}
+
+/// A text has at most one list of tokens, with the numbers that an interner gives that held the fixed texts alone.
+pub fn one_token_list()
+    ensures { TokenListsAreOne }
 {}

@@ -1,6 +1,7 @@
 //! Reads what stands in a text, one thing after another.
 
-ghost use Rattle.std.specs.Prelude.{◌≡◌, ◌+◌, ◌++◌, ◌∷◌, [], ◌≤◌, ◌<◌, ◌^◌, length, take, drop, List, IfOk, IfErr, OnOk, Some, slice_get};
+ghost use Rattle.std.specs.Prelude.{◌≡◌, ℕ, ◌+◌, ◌++◌, ◌∷◌, [], ◌≤◌, ◌<◌, ◌^◌, length, take, drop, List, IfOk, IfErr, OnOk, Some, slice_get};
+ghost use Rattle.byte_text.specs.Texts.{noted};
 ghost use Rattle.luau_lexer.specs.Bytes.{line_feeds};
 ghost use Rattle.luau_lexer.specs.Spellings.{start, further, outer, ends_expression, form_of, braces_behind, begins_two_braces, comment_form, bracket_form};
 ghost use Rattle.luau_lexer.specs.Gaps.{opening_level};
@@ -72,7 +73,7 @@ impl<'a> Lexer<'a> {
     ///
     /// After a refusal the lexer may have passed some of it.
     pub(crate) fn next(&mut self, names: &mut Interner) -> Result<Found, LexErr>
-        ensures found { IfOk result (λ found. Finds (form_of self.old.bytes self.old.braces) self.old self.new names.new found) }
+        ensures found { IfOk result (λ found. Finds (form_of self.old.bytes self.old.braces) self.old self.new names.old names.new found) }
         ensures refused { IfErr result (λ fault. Refuses (form_of self.old.bytes self.old.braces) self.old fault) }
         ensures kept { Keeps names.old names.new }
     {
@@ -184,7 +185,7 @@ impl<'a> Lexer<'a> {
 
     fn blanks(&mut self) -> Found
         requires { IsRoomFor form.Blanks self.old.bytes }
-        ensures { Finds form.Blanks self.old self.new [] result }
+        ensures { (texts : List (List ℕ)) → Finds form.Blanks self.old self.new texts texts result }
     {
         let len = blanks_len(self.rest());
         self.pass(len);
@@ -193,7 +194,7 @@ impl<'a> Lexer<'a> {
 
     fn line_comment(&mut self) -> Found
         requires { IsRoomFor form.LineComment self.old.bytes }
-        ensures { Finds form.LineComment self.old self.new [] result }
+        ensures { (texts : List (List ℕ)) → Finds form.LineComment self.old self.new texts texts result }
     {
         let len = line_len(self.rest());
         self.pass(len);
@@ -202,7 +203,7 @@ impl<'a> Lexer<'a> {
 
     fn long_comment(&mut self, level: usize) -> Result<Found, LexErr>
         requires { IsRoomFor (form.LongComment level) self.old.bytes }
-        ensures found { IfOk result (λ found. Finds (form.LongComment level) self.old self.new [] found) }
+        ensures found { IfOk result (λ found. (texts : List (List ℕ)) → Finds (form.LongComment level) self.old self.new texts texts found) }
         ensures refused { IfErr result (λ fault. Refuses (form.LongComment level) self.old fault) }
     {
         let bytes = self.rest();
@@ -217,7 +218,7 @@ impl<'a> Lexer<'a> {
 
     fn name(&mut self, names: &mut Interner) -> Result<Found, LexErr>
         requires { IsRoomFor form.Name self.old.bytes }
-        ensures found { IfOk result (λ found. Finds form.Name self.old self.new names.new found) }
+        ensures found { IfOk result (λ found. Finds form.Name self.old self.new names.old names.new found) }
         ensures refused { IfErr result (λ fault. Refuses form.Name self.old fault) }
         ensures kept { Keeps names.old names.new }
     {
@@ -233,7 +234,7 @@ impl<'a> Lexer<'a> {
 
     fn number(&mut self) -> Result<Found, LexErr>
         requires { IsRoomFor form.Number self.old.bytes }
-        ensures found { IfOk result (λ found. Finds form.Number self.old self.new [] found) }
+        ensures found { IfOk result (λ found. (texts : List (List ℕ)) → Finds form.Number self.old self.new texts texts found) }
         ensures refused { IfErr result (λ fault. Refuses form.Number self.old fault) }
     {
         let bytes = self.rest();
@@ -248,7 +249,7 @@ impl<'a> Lexer<'a> {
     }
 
     fn symbol(&mut self) -> Result<Found, LexErr>
-        ensures found { IfOk result (λ found. Finds form.Symbol self.old self.new [] found) }
+        ensures found { IfOk result (λ found. (texts : List (List ℕ)) → Finds form.Symbol self.old self.new texts texts found) }
         ensures refused { IfErr result (λ fault. Refuses form.Symbol self.old fault) }
     {
         let Some(symbol) = symbol_at(self.rest()) else {
@@ -272,7 +273,7 @@ impl<'a> Lexer<'a> {
 
     fn quoted(&mut self, quote: u8, names: &mut Interner) -> Result<Found, LexErr>
         requires { IsRoomFor (form.Quoted quote) self.old.bytes }
-        ensures found { IfOk result (λ found. Finds (form.Quoted quote) self.old self.new names.new found) }
+        ensures found { IfOk result (λ found. Finds (form.Quoted quote) self.old self.new names.old names.new found) }
         ensures refused { IfErr result (λ fault. Refuses (form.Quoted quote) self.old fault) }
         ensures kept { Keeps names.old names.new }
     {
@@ -283,7 +284,7 @@ impl<'a> Lexer<'a> {
 
     fn long_string(&mut self, level: usize, names: &mut Interner) -> Result<Found, LexErr>
         requires { IsRoomFor (form.LongString level) self.old.bytes }
-        ensures found { IfOk result (λ found. Finds (form.LongString level) self.old self.new names.new found) }
+        ensures found { IfOk result (λ found. Finds (form.LongString level) self.old self.new names.old names.new found) }
         ensures refused { IfErr result (λ fault. Refuses (form.LongString level) self.old fault) }
         ensures kept { Keeps names.old names.new }
     {
@@ -301,7 +302,7 @@ impl<'a> Lexer<'a> {
 
     fn first_piece(&mut self, names: &mut Interner) -> Result<Found, LexErr>
         requires { IsRoomFor form.FirstPiece self.old.bytes }
-        ensures found { IfOk result (λ found. Finds form.FirstPiece self.old self.new names.new found) }
+        ensures found { IfOk result (λ found. Finds form.FirstPiece self.old self.new names.old names.new found) }
         ensures refused { IfErr result (λ fault. Refuses form.FirstPiece self.old fault) }
         ensures kept { Keeps names.old names.new }
     {
@@ -318,7 +319,7 @@ impl<'a> Lexer<'a> {
 
     fn next_piece(&mut self, names: &mut Interner) -> Result<Found, LexErr>
         requires { IsRoomFor form.NextPiece self.old.bytes }
-        ensures found { IfOk result (λ found. Finds form.NextPiece self.old self.new names.new found) }
+        ensures found { IfOk result (λ found. Finds form.NextPiece self.old self.new names.old names.new found) }
         ensures refused { IfErr result (λ fault. Refuses form.NextPiece self.old fault) }
         ensures kept { Keeps names.old names.new }
     {
@@ -376,6 +377,7 @@ struct Closed {
 // The number of a text.
 fn note(names: &mut Interner, text: &[u8]) -> Result<StrId, OutOfMemory>
     ensures there { IfOk result (λ id. slice_get names.new id.0 ≡ Some text.now) }
+    ensures grown { OnOk result (names.new ≡ noted names.old text.now) }
     ensures kept { Keeps names.old names.new }
 {
     names.intern(text)

@@ -12,14 +12,14 @@ mod lexer;
 mod plain;
 mod strings;
 
-ghost use Rattle.std.specs.Prelude.{List, IfOk, IfErr};
+ghost use Rattle.std.specs.Prelude.{◌≡◌, List, IfOk, IfErr};
 ghost use Rattle.luau_lexer.specs.Spellings.{Spelled, Spells};
-ghost use Rattle.luau_lexer.specs.Tokens.{AreTokens, Keeps, IsRefusal};
+ghost use Rattle.luau_lexer.specs.Tokens.{AreTokens, Keeps, IsRefusal, texts_after};
 ghost use Rattle.luau_lexer.specs.Laws.{Reading, HasReading, Answers};
 
 use byte_text::Interner;
 pub use error::LexErr;
-pub use laws::one_reading;
+pub use laws::{one_reading, one_token_list};
 use lexer::{Found, Lexer};
 use std::alloc::Global;
 use syntax_tree::Token;
@@ -30,7 +30,10 @@ use syntax_tree::Token;
 /// the text's names and strings. How deep brackets and interpolated strings nest costs memory alone.
 pub fn lex(alloc: Global, source: &[u8], names: &mut Interner) -> Result<Vec<Token>, LexErr>
     // The tokens are those that the text spells, and their texts those that the interner gives to the ids.
-    ensures tokens { IfOk result (λ tokens. (spelled : List Spelled) × Spells source.now spelled × AreTokens names.new spelled tokens.items) }
+    // It has noted these texts in their order, and nothing else.
+    ensures tokens { IfOk result (λ tokens.
+        (spelled : List Spelled) × Spells source.now spelled × AreTokens names.new spelled tokens.items
+        × (names.new ≡ texts_after names.old spelled)) }
     // A refusal is the text's fault.
     ensures fault { IfErr result (λ fault. IsRefusal source.now fault) }
     // Numbers that were given before keep their texts, after a refusal too.
@@ -43,7 +46,9 @@ pub fn lex(alloc: Global, source: &[u8], names: &mut Interner) -> Result<Vec<Tok
 
 // The tokens of a text. That they are all that it can be read as follows from `one_reading`.
 fn read_tokens(alloc: Global, source: &[u8], names: &mut Interner) -> Result<Vec<Token>, LexErr>
-    ensures tokens { IfOk result (λ tokens. (spelled : List Spelled) × Spells source.now spelled × AreTokens names.new spelled tokens.items) }
+    ensures tokens { IfOk result (λ tokens.
+        (spelled : List Spelled) × Spells source.now spelled × AreTokens names.new spelled tokens.items
+        × (names.new ≡ texts_after names.old spelled)) }
     ensures fault { IfErr result (λ fault. IsRefusal source.now fault) }
     ensures kept { Keeps names.old names.new }
 {

@@ -1,4 +1,5 @@
 use Rattle.std.proofs.Common.{◌≡◌, ◌+◌, ◌≤◌, length, drop, Some, ap, ◌∙◌, refl, arith, length-drop}
+use Rattle.byte_text.specs.Texts.{noted}
 use Rattle.syntax_tree.specs.declared.token.TokenKind.TheVariants.{Str}
 use Rattle.luau_lexer.specs.declared.form.Form.TheVariants as form
 use Rattle.luau_lexer.specs.Plain.{Text}
@@ -14,4 +15,4 @@ returns-in_ok-id-in-Some-clause-found c =
     let after : c.split_at.result.1.now ≡ drop (level + 2) p.bytes = c.split_at.ensures.back ∙ ap (drop (level + 2)) c.rest.ensures.value in
     let stands = long_string_stands p level k c.split_at.result.1.now c.split_at-in-Some.result.0.now text after c.in-Some.ensures.value c.split_at-in-Some.ensures.front c.in_ok-text-in-Some.ensures in
     let within : level + 2 + k + (level + 2) ≤ length p.bytes = omega (arith, c.in-Some.ensures.within, ap length after, length-drop (level + 2) p.bytes, c.requires) in
-    finds_token (form.LongString level) p c.take.new.self p.braces c.note.new.names (Text text) (Str c.in_ok-id-in-Some.id) (level + 2 + k + (level + 2)) c.take.result c.take.ensures.token c.take.ensures.place stands (omega arith) within (record { id = c.in_ok-id-in-Some.id; is = refl; there = c.in_ok-id-in-Some.ensures.there ∙ ap Some c.as_slice.ensures.value })
+    finds_token (form.LongString level) p c.take.new.self p.braces c.args.names.now c.note.new.names (Text text) (Str c.in_ok-id-in-Some.id) (level + 2 + k + (level + 2)) c.take.result c.take.ensures.token c.take.ensures.place stands (omega arith) within (record { id = c.in_ok-id-in-Some.id; is = refl; there = c.in_ok-id-in-Some.ensures.there ∙ ap Some c.as_slice.ensures.value }) (c.in_ok-id-in-Some.ensures.grown ∙ ap (noted c.args.names.now) c.as_slice.ensures.value)

@@ -1,5 +1,6 @@
 use Rattle.std.proofs.Common.{Some, ap, sym, ◌∙◌, subst, true, false}
 use Rattle.std.proofs.lemmas.Result.{err_from_is_err_and}
+use Rattle.byte_text.specs.Texts.{noted}
 use Rattle.luau_lexer.specs.Finding.{OpensExpression, Refuses}
 use Rattle.luau_lexer.specs.declared.form.Form.TheVariants as form
 use Rattle.luau_lexer.proofs.Findings.{finds_mid, finds_end, next_doubled}
@@ -17,10 +18,10 @@ pub returns-then-opens-clause-found : goal.returns-then-opens-clause-found
 returns-then-opens-clause-found c =
     let closed = c.in_ok-body.ensures.closed in
     let opens : OpensExpression c.args.self.now c.in_ok-body.body.len true = subst (OpensExpression c.args.self.now c.in_ok-body.body.len) c.if-opens.true c.in_ok-opens.ensures.opens in
-    finds_mid c.args.self.now c.take.new.self c.note.new.names c.in_ok-id.id c.in_ok-body.body.text.items c.in_ok-body.body.len c.take.result c.take.ensures.token c.take.ensures.place closed.has_body opens closed.within (c.in_ok-id.ensures.there ∙ ap Some c.as_slice.ensures.value)
+    finds_mid c.args.self.now c.take.new.self c.args.names.now c.note.new.names c.in_ok-id.id c.in_ok-body.body.text.items c.in_ok-body.body.len c.take.result c.take.ensures.token c.take.ensures.place closed.has_body opens closed.within (c.in_ok-id.ensures.there ∙ ap Some c.as_slice.ensures.value) (c.in_ok-id.ensures.grown ∙ ap (noted c.args.names.now) c.as_slice.ensures.value)
 
 pub returns-clause-found : goal.returns-clause-found
 returns-clause-found c =
     let closed = c.in_ok-body.ensures.closed in
     let opens : OpensExpression c.args.self.now c.in_ok-body.body.len false = subst (OpensExpression c.args.self.now c.in_ok-body.body.len) c.if-opens.false c.in_ok-opens.ensures.opens in
-    finds_end c.args.self.now c.close.new.self c.take-else-opens.new.self c.note.new.names c.in_ok-id.id c.in_ok-body.body.text.items c.in_ok-body.body.len c.take-else-opens.result c.close.ensures c.take-else-opens.ensures.token c.take-else-opens.ensures.place closed.has_body opens closed.within (c.in_ok-id.ensures.there ∙ ap Some c.as_slice.ensures.value)
+    finds_end c.args.self.now c.close.new.self c.take-else-opens.new.self c.args.names.now c.note.new.names c.in_ok-id.id c.in_ok-body.body.text.items c.in_ok-body.body.len c.take-else-opens.result c.close.ensures c.take-else-opens.ensures.token c.take-else-opens.ensures.place closed.has_body opens closed.within (c.in_ok-id.ensures.there ∙ ap Some c.as_slice.ensures.value) (c.in_ok-id.ensures.grown ∙ ap (noted c.args.names.now) c.as_slice.ensures.value)

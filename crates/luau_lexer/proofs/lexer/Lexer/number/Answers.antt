@@ -1,4 +1,4 @@
-use Rattle.std.proofs.Common.{length, take, [], ap, ◌∙◌, refl, arith}
+use Rattle.std.proofs.Common.{length, take, ap, ◌∙◌, refl, arith}
 use Rattle.syntax_tree.specs.declared.token.TokenKind.TheVariants.{Number}
 use Rattle.whole_num.specs.declared.literal.Read.TheVariants as read
 use Rattle.luau_lexer.specs.declared.error.LexErr.TheVariants.{BadNumber, NotWholeLiteral, LiteralRange}
@@ -9,13 +9,13 @@ use Rattle.luau_lexer.proofs.Findings.{finds_token, number_stands}
 use Rattle.luau_lexer.proofs.lexer.Lexer.number.Goals as goal
 
 pub returns-in-Whole-clause-found : goal.returns-in-Whole-clause-found
-returns-in-Whole-clause-found c =
+returns-in-Whole-clause-found c = λ texts.
     let p = c.args.self.now in
     let rest = c.rest-bytes.ensures.value in
     let len = c.number_len-len.result in
     let e = c.number_len-len.ensures.value ∙ ap number_len rest in
     let stands = number_stands p len c.split_at.result.0.now (read.Whole c.in-Whole.n) (Passes (Lexeme (Numeral c.in-Whole.n) len p.braces)) (c.split_at.ensures.front ∙ ap (take len) rest) e c.in-Whole.ensures.reads refl in
-    finds_token form.Number p c.take.new.self p.braces [] (Numeral c.in-Whole.n) (Number c.in-Whole.n) len c.take.result c.take.ensures.token c.take.ensures.place stands (omega (arith, e, c.requires)) (omega (arith, c.number_len-len.ensures.within, ap length rest)) refl
+    finds_token form.Number p c.take.new.self p.braces texts texts (Numeral c.in-Whole.n) (Number c.in-Whole.n) len c.take.result c.take.ensures.token c.take.ensures.place stands (omega (arith, e, c.requires)) (omega (arith, c.number_len-len.ensures.within, ap length rest)) refl refl
 
 pub returns-in-NotWhole-clause-refused : goal.returns-in-NotWhole-clause-refused
 returns-in-NotWhole-clause-refused c =

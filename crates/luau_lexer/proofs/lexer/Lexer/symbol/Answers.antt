@@ -10,6 +10,6 @@ take-requires c =
     omega (arith, (symbol_len_fits c.args.self.now c.in-Some.symbol read).1, ap (λ p. length p.bytes) c.in_ok-note_brace.ensures)
 
 pub returns-clause-found : goal.returns-clause-found
-returns-clause-found c =
+returns-clause-found c = λ texts.
     let read = c.in-Some.ensures ∙ ap (λ l. option_map read_symbol (symbol_at l)) c.rest.ensures.value in
-    finds_symbol c.args.self.now c.note_brace.new.self c.take.new.self c.in-Some.symbol c.take.result c.in_ok-note_brace.ensures c.take.ensures.token c.take.ensures.place read
+    finds_symbol c.args.self.now c.note_brace.new.self c.take.new.self texts c.in-Some.symbol c.take.result c.in_ok-note_brace.ensures c.take.ensures.token c.take.ensures.place read
