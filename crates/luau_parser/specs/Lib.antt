@@ -1,1 +1,4 @@
 pub mod Examples
+pub mod Reading
+pub mod Statements
+pub mod Parsed

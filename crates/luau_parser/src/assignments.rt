@@ -1,0 +1,158 @@
+//! Calls and assignments.
+
+ghost use Rattle.std.specs.Prelude.{◌≡◌, ◌<◌, ◌≤◌, ◌^◌, Some, None, length};
+ghost use Rattle.syntax_tree.specs.Operators.{compound_operator};
+ghost use Rattle.syntax_tree.specs.Places.{kind_at, Has};
+ghost use Rattle.syntax_tree.specs.declared.token.TokenKind.TheVariants.{OpenParen};
+ghost use Rattle.syntax_tree.specs.Grammar.{in_target};
+ghost use Rattle.luau_parser.specs.Reading.{Nests, ending_of};
+ghost use Rattle.luau_parser.specs.Statements.{IsPrefixRead, FindsStat, FindsPrefixStat, FindsTargets, FindsTarget, FindsTargetBegin};
+
+use crate::fault::Fault;
+use crate::grammar::{Grammar, within};
+use crate::nodes::{named, stat_at};
+use crate::parts::{Ending, Found, Part, Parts, Prefix, Statement, Wanted};
+use parse_steps::{Level, Rank, Word, compound_at, name_at, stands};
+use sqlite_items::{Boxed, Items};
+use std::alloc::Global;
+use syntax_tree::{BinOp, StatKind, Token};
+
+impl<'a, F: Fn(Global, &[Token], usize, Wanted, usize) -> Result<Found, Fault>> Grammar<'a, F> {
+    /// A statement that begins with a parenthesis.
+    pub(crate) fn paren_stat(&self, at: usize) -> Result<Statement, Fault>
+        requires nests { Nests self.now.room (F.pre self.now.nested) (F.post self.now.nested) }
+        requires room { self.now.room < 2 ^ 32 }
+        requires opens { Has self.now.tokens.now at OpenParen }
+        ensures { FindsStat self.now.tokens.now self.now.room at result }
+    {
+        within(0, self.room, at)?;
+        let part = self.parenthesis(at)?;
+        let ending = Ending::Paren;
+        let Prefix { part, ending } = self.suffixes(at, Prefix { part, ending })?;
+        self.prefix_stat(at, part, ending)
+    }
+
+    /// A call, or an assignment, behind its first prefix, which begins at a place.
+    pub(crate) fn prefix_stat(
+        &self,
+        begin: usize,
+        part: Part,
+        ending: Ending,
+    ) -> Result<Statement, Fault>
+        requires nests { Nests self.now.room (F.pre self.now.nested) (F.post self.now.nested) }
+        requires room { self.now.room < 2 ^ 32 }
+        requires prefix { IsPrefixRead self.now.tokens.now self.now.room begin part (ending_of ending) }
+        ensures { FindsPrefixStat self.now.tokens.now self.now.room begin part (ending_of ending) result }
+    {
+        match ending {
+            Ending::Call => Ok(Statement {
+                nest: part.nest,
+                end: part.end,
+                stat: stat_at(self.tokens, begin, StatKind::Call(part.expr)),
+            }),
+            Ending::Paren => Err(Fault::Unexpected(part.end)),
+            Ending::Target => match compound_at(self.tokens, part.end) {
+                Some(op) => self.compound(begin, part, op),
+                None => self.assignment(begin, part),
+            },
+        }
+    }
+
+    /// A compound assignment.
+    fn compound(&self, begin: usize, first: Part, op: BinOp) -> Result<Statement, Fault>
+        requires nests { Nests self.now.room (F.pre self.now.nested) (F.post self.now.nested) }
+        requires room { self.now.room < 2 ^ 32 }
+        requires target { IsPrefixRead self.now.tokens.now self.now.room begin first in_target }
+        requires operator { compound_operator (kind_at self.now.tokens.now first.end) ≡ Some op }
+        requires there { first.end < length self.now.tokens.now }
+        requires few { length self.now.tokens.now < 2 ^ 63 }
+        ensures { FindsPrefixStat self.now.tokens.now self.now.room begin first in_target result }
+    {
+        let part = self.level(first.end + 1, Level::Of(Rank::Ors))?;
+        let nest = first.nest.max(part.nest);
+        let target = Boxed::new(self.alloc, first.expr)?;
+        let value = Boxed::new(self.alloc, part.expr)?;
+        Ok(Statement {
+            stat: stat_at(self.tokens, begin, StatKind::Compound { op, target, value }),
+            nest,
+            end: part.end,
+        })
+    }
+
+    /// An assignment.
+    fn assignment(&self, begin: usize, first: Part) -> Result<Statement, Fault>
+        requires nests { Nests self.now.room (F.pre self.now.nested) (F.post self.now.nested) }
+        requires room { self.now.room < 2 ^ 32 }
+        requires target { IsPrefixRead self.now.tokens.now self.now.room begin first in_target }
+        requires plain { compound_operator (kind_at self.now.tokens.now first.end) ≡ None }
+        ensures { FindsPrefixStat self.now.tokens.now self.now.room begin first in_target result }
+    {
+        let targets = self.targets(begin, first)?;
+        if !stands(self.tokens, targets.end, Word::Equal) {
+            return Err(Fault::Unexpected(targets.end));
+        }
+        let values = self.list(targets.end + 1)?;
+        let kind = StatKind::Assign {
+            targets: targets.list,
+            values: values.list,
+        };
+        Ok(Statement {
+            stat: stat_at(self.tokens, begin, kind),
+            nest: targets.nest.max(values.nest),
+            end: values.end,
+        })
+    }
+
+    /// Targets behind the first, each with a comma before it.
+    fn targets(&self, begin: usize, first: Part) -> Result<Parts, Fault>
+        requires nests { Nests self.now.room (F.pre self.now.nested) (F.post self.now.nested) }
+        requires room { self.now.room < 2 ^ 32 }
+        requires target { IsPrefixRead self.now.tokens.now self.now.room begin first in_target }
+        requires plain { compound_operator (kind_at self.now.tokens.now first.end) ≡ None }
+        ensures { FindsTargets self.now.tokens.now self.now.room begin first result }
+    {
+        let mut list = Items::new(self.alloc);
+        let mut nest = first.nest;
+        let mut end = first.end;
+        list.push(first.expr)?;
+        while stands(self.tokens, end, Word::Comma) {
+            let part = self.target(end + 1)?;
+            nest = nest.max(part.nest);
+            end = part.end;
+            list.push(part.expr)?;
+        }
+        Ok(Parts { list, nest, end })
+    }
+
+    /// A further target.
+    fn target(&self, at: usize) -> Result<Part, Fault>
+        requires nests { Nests self.now.room (F.pre self.now.nested) (F.post self.now.nested) }
+        requires room { self.now.room < 2 ^ 32 }
+        ensures { FindsTarget self.now.tokens.now self.now.room at result }
+    {
+        let first = self.target_begin(at)?;
+        let Prefix { part, ending } = self.suffixes(at, first)?;
+        match ending {
+            Ending::Target => Ok(part),
+            Ending::Call | Ending::Paren => Err(Fault::Unexpected(part.end)),
+        }
+    }
+
+    /// The name or the parenthesis that begins a further target.
+    fn target_begin(&self, at: usize) -> Result<Prefix, Fault>
+        requires nests { Nests self.now.room (F.pre self.now.nested) (F.post self.now.nested) }
+        requires room { self.now.room < 2 ^ 32 }
+        ensures { FindsTargetBegin self.now.tokens.now self.now.room at result }
+    {
+        if stands(self.tokens, at, Word::OpenParen) {
+            within(0, self.room, at)?;
+            let part = self.parenthesis(at)?;
+            let ending = Ending::Paren;
+            return Ok(Prefix { part, ending });
+        }
+        match name_at(self.tokens, at) {
+            Some(name) => Ok(named(self.tokens, at, name)),
+            None => Err(Fault::Unexpected(at)),
+        }
+    }
+}
