@@ -1,0 +1,8 @@
+use Rattle.std.proofs.Common.{rules}
+use Rattle.syntax_tree.specs.declared.tree.ExprKind.TheFolds as folds
+use Rattle.syntax_tree.specs.declared.tree.ExprKind.TheViews as views
+use Rattle.scopes.proofs.ArmNames.{arm_is}
+use Rattle.scopes.proofs.names.Resolver.+names.Goals as goal
+
+pub arm-returns : goal.arm-returns
+arm-returns t c = search (rules, arm_is)
