@@ -1,0 +1,14 @@
+pub mod Levels
+pub mod Walks
+pub mod Numbering
+pub mod Behind
+pub mod Counts
+pub mod Effects
+pub mod StatOpens
+pub mod Places
+pub mod Opens
+pub mod Passing
+pub mod Seen
+pub mod Covering
+pub mod Gains
+pub mod Capturing

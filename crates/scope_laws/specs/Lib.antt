@@ -1,0 +1,4 @@
+pub mod Declares
+pub mod Sight
+pub mod Captured
+pub mod Laws
