@@ -17,6 +17,7 @@ use Rattle.machine_meaning.specs.declared.code.Constant.TheVariants as constant
 use Rattle.machine_meaning.specs.States.{Registers, State, start}
 use Rattle.machine_meaning.specs.Steps.{Look, Step, load, fetch, give, shows, call, leave, jump, charge, chosen, branch, row, act, step}
 use Rattle.machine_meaning.specs.Runs.{MachineRun}
+use Rattle.machine_meaning.proofs.Onward.{LeadsOn, row_on}
 use Rattle.luau_vm.specs.declared.machine.Machine.{Machine}
 use Rattle.luau_vm.specs.declared.machine.Moved.TheVariants as moved
 use Rattle.luau_vm.specs.declared.running.Ran.{Ran}
@@ -24,76 +25,6 @@ use Rattle.luau_vm.specs.Shown.{line_of, lines_of, Shows as ShowsReport}
 use Rattle.luau_vm.specs.Moves.{registers_of, moved_by, Makes}
 
 -- ---- a move that charges nothing leads on
-
-abbrev pub LeadsOn : ℕ → Step → Type 0
-LeadsOn place (Goes ns s) = place < s.place
-LeadsOn place (Shows ns text s) = place < s.place
-LeadsOn place (Charges s) = Unit {0}
-LeadsOn place (Ends ns end) = Unit {0}
-
-module _ (place next : ℕ) (lt : place < next) (regs : Registers) where
-  load_on : (k : Option Constant) (to : ℕ) → LeadsOn place (load k to next regs)
-  load_on None to = tt
-  load_on (Some (constant.Number v)) to = lt
-  load_on (Some (constant.Text x)) to = tt
-
-  fetch_on : (k : Option Constant) (to : ℕ) → LeadsOn place (fetch k to next regs)
-  fetch_on None to = tt
-  fetch_on (Some (constant.Number v)) to = tt
-  fetch_on (Some (constant.Text x)) to = lt
-
-  give_on : (o : Outcome) (to : ℕ) → LeadsOn place (give o to next regs)
-  give_on None to = tt
-  give_on (Some (Ok v)) to = lt
-  give_on (Some (Err s)) to = tt
-
-  shows_on : (text : Option (List ℕ)) → LeadsOn place (shows text next regs)
-  shows_on None = tt
-  shows_on (Some text) = lt
-
-  call_on : (f v : Value) (a r : Bool) → LeadsOn place (call f v a r next regs)
-  call_on value.Print v true true = shows_on _
-  call_on f v a r = tt
-
-  leave_on : (b : Bool) → LeadsOn place (leave b)
-  leave_on true = tt
-  leave_on false = tt
-
-  jump_on : (by : ℤ) → LeadsOn place (jump by place regs)
-  jump_on (pos k) = omega arith
-  jump_on (negsuc k) = tt
-
-  charge_on : (to : ℤ) → LeadsOn place (charge to regs)
-  charge_on (pos k) = tt
-  charge_on (negsuc k) = tt
-
-  chosen_on : (b : Bool) (by : ℤ) → LeadsOn place (chosen b by place next regs)
-  chosen_on true by = jump_on by
-  chosen_on false by = lt
-
-  branch_on : (answer : Option Bool) (by : ℤ) → LeadsOn place (branch answer by place next regs)
-  branch_on None by = tt
-  branch_on (Some b) by = chosen_on b by
-
-  row_on : (ks : List Constant) (insn : Insn) → LeadsOn place (row ks insn place next regs)
-  row_on ks (PrepVarargs parameters) = lt
-  row_on ks (LoadN to n) = lt
-  row_on ks (LoadK to k) = load_on _ to
-  row_on ks (MoveInsn to from) = lt
-  row_on ks (GetGlobal to k) = fetch_on _ to
-  row_on ks (Call base arguments results) = call_on _ _ _ _
-  row_on ks (Return base values) = leave_on _
-  row_on ks (Jump by) = jump_on by
-  row_on ks (JumpBack by) = charge_on _
-  row_on ks (JumpIfEq left by right) = branch_on _ by
-  row_on ks (JumpIfLe left by right) = branch_on _ by
-  row_on ks (JumpIfLt left by right) = branch_on _ by
-  row_on ks (JumpIfNotEq left by right) = branch_on _ by
-  row_on ks (JumpIfNotLe left by right) = branch_on _ by
-  row_on ks (JumpIfNotLt left by right) = branch_on _ by
-  row_on ks (Add to left right) = give_on _ to
-  row_on ks (Sub to left right) = give_on _ to
-  row_on ks (Mul to left right) = give_on _ to
 
 by_goes : (place to : ℕ) (move : Step) → LeadsOn place move → moved.Goes to ≡ moved_by move → place < to
 by_goes place to (Goes ns s) lt e = let same : to ≡ s.place = cc in omega arith

@@ -8,3 +8,7 @@ use Rattle.machine_meaning.specs.Runs.{MachineRun}
 -- a run has at most one report
 abbrev pub RunsHaveOneReport : Type 0
 RunsHaveOneReport = (words : List ℕ) (ks : List Constant) (n : ℕ) (r q : Report (List ℕ) Look) → MachineRun words ks n r → MachineRun words ks n q → r ≡ q
+
+-- for each bound on its turns a run has a report
+abbrev pub RunsHaveReports : Type 0
+RunsHaveReports = (words : List ℕ) (ks : List Constant) (n : ℕ) → (r : Report (List ℕ) Look) × MachineRun words ks n r

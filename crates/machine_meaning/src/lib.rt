@@ -1,8 +1,9 @@
-//! What code does: the meaning of its instructions on registers, and the law that a run has at most one report.
+//! What code does: the meaning of its instructions on registers, and the laws that a run has a report for
+//! each bound on its turns, and one only.
 #![tactic(auto)]
 
 mod code;
 mod laws;
 
 pub use code::{Code, Constant};
-pub use laws::one_report;
+pub use laws::{has_report, one_report};
