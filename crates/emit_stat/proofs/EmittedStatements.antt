@@ -21,7 +21,7 @@ use Rattle.value_model.specs.Globals.{print_name}
 use Rattle.machine_meaning.specs.declared.code.Constant.{Constant}
 use Rattle.machine_meaning.specs.declared.code.Constant.TheVariants as constant
 use Rattle.emit_stat.specs.declared.draft.Draft.{Draft}
-use Rattle.emit_stat.specs.Form.{register_of, unless, IsArithmetic, IsCondition, IsPrint, IsStatement, IsBlock}
+use Rattle.emit_stat.specs.Form.{room, register_of, unless, IsArithmetic, IsCondition, IsPrint, IsStatement, IsBlock}
 use Rattle.emit_stat.specs.Size.{expr_words, stat_words, block_words}
 use Rattle.emit_stat.specs.Code.{IsTestCode, IsPrintCode, IsStatementCode, branch, branches, loop}
 use Rattle.emit_stat.specs.Emitted.{HasLabels, Appends, NamesPrint, Emits, EmitsInsns, EmitsValue, EmitsPrint, EmitsAssignment, EmitsTest, EmitsStatement, EmitsBlock, IsTarget, IsAssignmentCode}
@@ -48,9 +48,9 @@ ready_on a b all m k n is r p l le le' = record {
 }
 
 -- ---- calls of `print`
-pub argument_form : (names : List StrId) (m : ℕ) (call callee e : Expr) (args : List Expr) → IsPrint names call → call.kind ≡ expr.Call callee args → e ≡ get_or args 0 e → 3 ≤ m → IsArithmetic names m e
+pub argument_form : (names : List StrId) (m : ℕ) (call callee e : Expr) (args : List Expr) → IsPrint names call → call.kind ≡ expr.Call callee args → e ≡ get_or args 0 e → room names 1 ≤ m → IsArithmetic names m e
 argument_form names m call callee e args p k h le =
-    more_registers names 3 m e le (subst (λ x. IsArithmetic names 3 x) (sym (argument_is names call callee e args p k h)) p.value)
+    more_registers names (room names 1) m e le (subst (λ x. IsArithmetic names (room names 1) x) (sym (argument_is names call callee e args p k h)) p.value)
 
 pub argument_words : (names : List StrId) (call callee e : Expr) (args : List Expr) → IsPrint names call → call.kind ≡ expr.Call callee args → e ≡ get_or args 0 e → expr_words e + 3 ≡ expr_words call
 argument_words names call callee e args p k h =
@@ -81,8 +81,8 @@ emits_of_print r c0 c1 c2 c3 names base call callee e args p k h b print w l1 q 
     s
 
 -- ---- assignments
-pub value_form : (names : List StrId) (free : ℕ) (e : Expr) → IsArithmetic names 3 e → free ≡ length names → length names ≤ 200 → IsArithmetic names (256 - free) e
-value_form names free e f b few = more_registers names 3 (256 - free) e (omega arith) f
+pub value_form : (names : List StrId) (free : ℕ) (e : Expr) → IsArithmetic names (room names 0) e → free ≡ length names → length names ≤ 200 → IsArithmetic names (256 - free) e
+value_form names free e f b few = more_registers names (room names 0) (256 - free) e (omega arith) f
 
 of_assignment : (c0 c1 c2 : Draft) (names : List StrId) (r : ℕ) (target e : Expr) (x : StrId) → target.kind ≡ expr.Name x → register_of names x ≡ Some r → EmitsValue names (length names) e c0 c1 → c2.constants ≡ c1.constants → c2.labels ≡ c1.labels → Appends c1 c2 1 (item.Insn (insn.Move r (length names)) ∷ []) → EmitsAssignment names target e c0 c2
 of_assignment c0 c1 c2 names r target e x t g q last l v =
@@ -159,7 +159,7 @@ local_value names xs es e p h = h ∙ ap (λ l. get_or l 0 e) p.one_value
 pub local_form : (names : List StrId) (s : Stat) (xs : List StrId) (es : List Expr) (e : Expr) (free : ℕ) → IsStatement names s → s.kind ≡ stat.Local xs es → e ≡ get_or es 0 e → free ≡ length names → IsArithmetic names (256 - free) e
 local_form names s xs es e free f k h b =
     let p = local_parts names s xs es f k in
-    more_registers names 3 (256 - free) e (omega (arith, p.few)) (subst (λ x. IsArithmetic names 3 x) (sym (local_value names xs es e p h)) p.form)
+    more_registers names (room names 0) (256 - free) e (omega (arith, p.few)) (subst (λ x. IsArithmetic names (room names 0) x) (sym (local_value names xs es e p h)) p.form)
 
 pub emits_of_local : (r : Result (Unit {0}) OutOfMemory) (c0 c1 : Draft) (names : List StrId) (s : Stat) (xs : List StrId) (es : List Expr) (e : Expr) (free : ℕ) → IsStatement names s → s.kind ≡ stat.Local xs es → e ≡ get_or es 0 e → free ≡ length names → EmitsValue names free e c0 c1 → OnOk r (EmitsStatement names s c0 c1)
 emits_of_local r c0 c1 names s xs es e free f k h b q =
@@ -171,7 +171,7 @@ emits_of_local r c0 c1 names s xs es e free f k h b q =
 pub record Assigns (names : List StrId) (s : Stat) (target e : Expr) : Type 0 where
   pub kind : s.kind ≡ stat.Assign (target ∷ []) (e ∷ [])
   pub declared : IsTarget names target
-  pub form : IsArithmetic names 3 e
+  pub form : IsArithmetic names (room names 0) e
   pub words : stat_words s ≡ expr_words e + 1
 
 pub assigned : (names : List StrId) (s : Stat) (ts es : List Expr) (target e : Expr) → IsStatement names s → s.kind ≡ stat.Assign ts es → target ≡ get_or ts 0 target → e ≡ get_or es 0 e → Assigns names s target e
@@ -183,7 +183,7 @@ assigned names s ts es target e f k ht he =
     record {
       kind = kind;
       declared = subst (λ x. IsTarget names x) (sym same_target) p.declared;
-      form = subst (λ x. IsArithmetic names 3 x) (sym same_value) p.form;
+      form = subst (λ x. IsArithmetic names (room names 0) x) (sym same_value) p.form;
       words = words_of_assignment s target e kind;
     }
 

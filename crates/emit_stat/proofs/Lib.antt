@@ -10,3 +10,8 @@ pub mod EmittedValues
 pub mod EmittedStatements
 pub mod EmittedBlocks
 pub mod EmittedScripts
+pub mod NodeLevels
+pub mod Built
+pub mod BuiltNeeds
+pub mod BuiltSizes
+pub mod BuiltBlocks

@@ -35,7 +35,7 @@ use Rattle.source_meaning.specs.Levels.{StatLevel}
 use Rattle.source_meaning.specs.States.{Environment, cell_of, Frame, LeftOperand, RightOperand, Callee, Argument, Discards, Declares, Assigns, Chooses, Loops, Repeats, Continues, Restores, Focus, Evaluate, Give, Execute, ExecuteAll, Choose, Done, State}
 use Rattle.source_meaning.specs.Steps as source
 use Rattle.source_meaning.specs.Runs.{start, SourceRun}
-use Rattle.emit_stat.specs.Form.{register_of, operation, unless, names_beyond, names_after, IsArithmetic, IsCondition, IsPrint, IsStatement, IsBlock, IsOther}
+use Rattle.emit_stat.specs.Form.{room, register_of, operation, unless, names_beyond, names_after, IsArithmetic, IsCondition, IsPrint, IsStatement, IsBlock, IsOther}
 use Rattle.emit_stat.specs.Correct.{RunsHaveReports}
 use Rattle.emit_stat.proofs.Locals.{Since, since_on}
 use Rattle.emit_stat.proofs.Following.{opened, begun, truth_of}
@@ -205,9 +205,9 @@ value_fine left names _ _ (IsArithmetic.result n e a b op h some left_form right
 condition_fine : (left : ℕ) (names : List StrId) (cond : Expr) → IsCondition names cond → (k : List Frame) (env : Environment) (cells : List Value) → Sound cells env names → ((b : Bool) → FineAt left (Give (value.Boolean b)) k env cells) → FineAt left (Evaluate cond) k env cells
 condition_fine left names cond c k env cells ok go =
     by_step left _ (Evaluate c.left) k (LeftOperand c.op c.right ∷ k) env env cells cells (opened cond (level.Binary c.op c.left c.right) k env cells (ap out-ExprKind c.kind ∙ views.outs-Binary c.op c.left c.right))
-    (value_fine left names 3 c.left c.left_value (LeftOperand c.op c.right ∷ k) env cells ok
+    (value_fine left names (room names 0) c.left c.left_value (LeftOperand c.op c.right ∷ k) env cells ok
     (λ v. by_step left _ (Evaluate c.right) _ (RightOperand c.op (value.Number v) ∷ k) env env cells cells refl
-    (value_fine left names 3 c.right c.right_value (RightOperand c.op (value.Number v) ∷ k) env cells ok
+    (value_fine left names (room names 1) c.right c.right_value (RightOperand c.op (value.Number v) ∷ k) env cells ok
     (λ w. let answer = comparison_gives c.op v w c.compares in
     by_step left _ (Give (value.Boolean answer.0)) _ k env env cells cells (ap (λ o. source.give o k env cells) answer.1) (go answer.0)))))
 
@@ -239,16 +239,16 @@ print_fine left names s call h p k env cells ok go =
     (opened p.callee (level.Name print_name) (Callee p.argument ∷ Discards ∷ k) env cells (ap out-ExprKind p.print ∙ views.outs-Name print_name)
     ∙ ap (λ o. source.named o print_name (Callee p.argument ∷ Discards ∷ k) env cells) (unbound (length cells) env names print_name ok.bound p.free))
     (by_step left _ (Evaluate p.argument) _ (Argument value.Print ∷ Discards ∷ k) env env cells cells refl
-    (value_fine left names 3 p.argument p.value (Argument value.Print ∷ Discards ∷ k) env cells ok
+    (value_fine left names (room names 1) p.argument p.value (Argument value.Print ∷ Discards ∷ k) env cells ok
     (λ n. shows left _ _ (signed_decimal n) (ap (λ o. source.shows o (Discards ∷ k) env cells) (printed_number n))
     (by_step left _ Done _ k env env cells cells refl go))))))
 
-declare_fine : (left : ℕ) (names : List StrId) (s : Stat) (x : StrId) (e : Expr) → s.kind ≡ stat.Local (x ∷ []) (e ∷ []) → IsArithmetic names 3 e → (k : List Frame) (env : Environment) (cells : List Value) → Sound cells env names → FineAfter left env names (names_after names s) k → FineAt left (Execute s) k env cells
+declare_fine : (left : ℕ) (names : List StrId) (s : Stat) (x : StrId) (e : Expr) → s.kind ≡ stat.Local (x ∷ []) (e ∷ []) → IsArithmetic names (room names 0) e → (k : List Frame) (env : Environment) (cells : List Value) → Sound cells env names → FineAfter left env names (names_after names s) k → FineAt left (Execute s) k env cells
 declare_fine left names s x e h form k env cells ok go =
     let opens : out-StatKind s.kind ≡ level.Local (x ∷ []) (e ∷ []) = ap out-StatKind h ∙ views.outs-Local (x ∷ []) (e ∷ []) in
     let after : names_after names s ≡ x ∷ names = ap (λ l. names_beyond l names) opens in
     by_step left _ (Evaluate e) k (Declares x ∷ k) env env cells cells (begun s _ k env cells opens)
-    (value_fine left names 3 e form (Declares x ∷ k) env cells ok
+    (value_fine left names (room names 0) e form (Declares x ∷ k) env cells ok
     (λ n. by_step left _ Done _ k env ((x, length cells) ∷ env) cells (cells ++ value.Number n ∷ []) refl
     (go left (omega arith) ((x, length cells) ∷ env) (cells ++ value.Number n ∷ [])
     (subst (λ ns. Sound (cells ++ value.Number n ∷ []) ((x, length cells) ∷ env) ns) (sym after) (record {
@@ -257,12 +257,12 @@ declare_fine left names s x e h form k env cells ok go =
     }))
     (subst (λ ns. Since ((x, length cells) ∷ env) ns env names) (sym after) (Since.one x (length cells) env names env names (Since.unchanged env names))))))
 
-assign_fine : (left : ℕ) (names : List StrId) (s : Stat) (target e : Expr) (x : StrId) → s.kind ≡ stat.Assign (target ∷ []) (e ∷ []) → target.kind ≡ expr.Name x → IsSome (register_of names x) → IsArithmetic names 3 e → (k : List Frame) (env : Environment) (cells : List Value) → Sound cells env names → FineBack left names env k → FineAt left (Execute s) k env cells
+assign_fine : (left : ℕ) (names : List StrId) (s : Stat) (target e : Expr) (x : StrId) → s.kind ≡ stat.Assign (target ∷ []) (e ∷ []) → target.kind ≡ expr.Name x → IsSome (register_of names x) → IsArithmetic names (room names 0) e → (k : List Frame) (env : Environment) (cells : List Value) → Sound cells env names → FineBack left names env k → FineAt left (Execute s) k env cells
 assign_fine left names s target e x h t some form k env cells ok go =
     let l = found (length cells) env names x ok.bound some in
     by_step left _ (Evaluate e) k (Assigns x ∷ k) env env cells cells
     (begun s _ k env cells (ap out-StatKind h ∙ views.outs-Assign (target ∷ []) (e ∷ [])) ∙ ap (λ l. source.begin_assignment l e k env cells) (ap out-ExprKind t ∙ views.outs-Name x))
-    (value_fine left names 3 e form (Assigns x ∷ k) env cells ok
+    (value_fine left names (room names 0) e form (Assigns x ∷ k) env cells ok
     (λ n. by_step left _ Done _ k env env cells (slice_set cells l.0 (value.Number n)) (ap (λ o. source.assign o (value.Number n) k env cells) l.1)
     (go left (omega arith) (slice_set cells l.0 (value.Number n)) (record {
       numbers = numbers_set cells l.0 (value.Number n) (n, refl) ok.numbers;

@@ -13,7 +13,7 @@ use Rattle.syntax_tree.specs.declared.tree.Stat.{Stat}
 use Rattle.syntax_tree.specs.declared.tree.StatKind.{StatKind, out-StatKind}
 use Rattle.syntax_tree.specs.declared.tree.StatKind as stat
 use Rattle.source_meaning.specs.Levels.{StatLevel}
-use Rattle.emit_stat.specs.Form.{operation, unless, names_after, names_beyond, IsArithmetic, IsCondition, IsPrint, IsStatement, IsBlock, IsOther}
+use Rattle.emit_stat.specs.Form.{room, operation, unless, names_after, names_beyond, IsArithmetic, IsCondition, IsPrint, IsStatement, IsBlock, IsOther}
 use Rattle.emit_stat.specs.Size.{total, expr_words, stat_words, block_words}
 use Rattle.emit_stat.specs.Emitted.{IsTarget}
 
@@ -73,16 +73,16 @@ operands names _ _ a b op (IsArithmetic.result n e a' b' op' h some l r) k =
 -- what is known of the parts of a condition
 pub record HasComparison (names : List StrId) (op : BinOp) (a b : Expr) : Type 0 where
   pub compares : IsSome (unless op 0 0)
-  pub left : IsArithmetic names 3 a
-  pub right : IsArithmetic names 3 b
+  pub left : IsArithmetic names (room names 0) a
+  pub right : IsArithmetic names (room names 1) b
 
 pub comparison : (names : List StrId) (cond a b : Expr) (op : BinOp) → IsCondition names cond → cond.kind ≡ expr.Binary op a b → HasComparison names op a b
 comparison names cond a b op c k =
     let (same_op, same_a, same_b) = same_binary c.op op c.left a c.right b (sym c.kind ∙ k) in
     record {
       compares = subst (λ o. IsSome (unless o 0 0)) same_op c.compares;
-      left = subst (λ x. IsArithmetic names 3 x) same_a c.left_value;
-      right = subst (λ x. IsArithmetic names 3 x) same_b c.right_value;
+      left = subst (λ x. IsArithmetic names (room names 0) x) same_a c.left_value;
+      right = subst (λ x. IsArithmetic names (room names 1) x) same_b c.right_value;
     }
 
 -- ---- statements
@@ -136,7 +136,7 @@ pub record HasLocal (names : List StrId) (xs : List StrId) (es : List Expr) : Ty
   pub one_name : xs ≡ name ∷ []
   pub one_value : es ≡ value ∷ []
   pub few : length names < 200
-  pub form : IsArithmetic names 3 value
+  pub form : IsArithmetic names (room names 0) value
 
 pub record HasAssignment (names : List StrId) (ts es : List Expr) : Type 0 where
   pub target : Expr
@@ -144,7 +144,7 @@ pub record HasAssignment (names : List StrId) (ts es : List Expr) : Type 0 where
   pub one_target : ts ≡ target ∷ []
   pub one_value : es ≡ value ∷ []
   pub declared : IsTarget names target
-  pub form : IsArithmetic names 3 value
+  pub form : IsArithmetic names (room names 0) value
 
 pub record HasBranch (names : List StrId) (arms : List Arm) (other : Option (List Stat)) : Type 0 where
   pub arm : Arm

@@ -1,6 +1,6 @@
 -- The trees that are compiled: locals with one value each, assignments to them, sums, calls of `print`, branches on a comparison of
 -- two sums, and loops.
-use Rattle.std.specs.Prelude.{◌≡◌, ℕ, ◌-◌, ◌<◌, ◌≤◌, ℤ, pos, List, [], ◌∷◌, ◌++◌, length, reverse, Option, Some, None, IsSome, nat_eq, if◌then◌else◌}
+use Rattle.std.specs.Prelude.{◌≡◌, ℕ, ◌+◌, ◌-◌, ◌<◌, ◌≤◌, ℤ, pos, List, [], ◌∷◌, ◌++◌, length, reverse, Option, Some, None, IsSome, nat_eq, if◌then◌else◌}
 use Rattle.byte_text.specs.declared.fixed.StrId.{StrId}
 use Rattle.syntax_tree.specs.declared.tree.Arm.{Arm, out-Arm}
 use Rattle.syntax_tree.specs.declared.tree.BinOp.{BinOp}
@@ -44,17 +44,21 @@ pub data IsArithmetic (names : List StrId) : (registers : ℕ) → Expr → Type
   name : (n : ℕ) (e : Expr) (x : StrId) → e.kind ≡ expr.Name x → IsSome (register_of names x) → 0 < n → IsArithmetic names n e
   result : (n : ℕ) (e a b : Expr) (op : BinOp) → e.kind ≡ expr.Binary op a b → IsSome (operation op 0 0 0) → IsArithmetic names n a → IsArithmetic names (n - 1) b → IsArithmetic names n e
 
--- a comparison of two such values
+-- so many registers are free above the locals, of which a function has 250, where `held` of them are held
+abbrev pub room : List StrId → (held : ℕ) → ℕ
+room names held = 250 - (length names + held)
+
+-- a comparison of two such values, the first of which is held while the second is made
 pub record IsCondition (names : List StrId) (e : Expr) : Type 0 where
   pub left : Expr
   pub right : Expr
   pub op : BinOp
   pub kind : e.kind ≡ expr.Binary op left right
   pub compares : IsSome (unless op 0 0)
-  pub left_value : IsArithmetic names 3 left
-  pub right_value : IsArithmetic names 3 right
+  pub left_value : IsArithmetic names (room names 0) left
+  pub right_value : IsArithmetic names (room names 1) right
 
--- a call of `print` with one such value
+-- a call of `print` with one such value, while which is made `print` is held
 pub record IsPrint (names : List StrId) (call : Expr) : Type 0 where
   pub callee : Expr
   pub argument : Expr
@@ -62,7 +66,7 @@ pub record IsPrint (names : List StrId) (call : Expr) : Type 0 where
   pub print : callee.kind ≡ expr.Name print_name
   -- no local has taken the name
   pub free : register_of names print_name ≡ None
-  pub value : IsArithmetic names 3 argument
+  pub value : IsArithmetic names (room names 1) argument
 
 -- a local's names come in front
 abbrev pub names_beyond : StatLevel → List StrId → List StrId
@@ -75,8 +79,8 @@ names_after names s = names_beyond (out-StatKind s.kind) names
 
 mutual
   pub data IsStatement : (names : List StrId) → Stat → Type 0 where
-    declares : (names : List StrId) (s : Stat) (x : StrId) (e : Expr) → s.kind ≡ stat.Local (x ∷ []) (e ∷ []) → length names < 200 → IsArithmetic names 3 e → IsStatement names s
-    assigns : (names : List StrId) (s : Stat) (target e : Expr) (x : StrId) → s.kind ≡ stat.Assign (target ∷ []) (e ∷ []) → target.kind ≡ expr.Name x → IsSome (register_of names x) → IsArithmetic names 3 e → IsStatement names s
+    declares : (names : List StrId) (s : Stat) (x : StrId) (e : Expr) → s.kind ≡ stat.Local (x ∷ []) (e ∷ []) → length names < 200 → IsArithmetic names (room names 0) e → IsStatement names s
+    assigns : (names : List StrId) (s : Stat) (target e : Expr) (x : StrId) → s.kind ≡ stat.Assign (target ∷ []) (e ∷ []) → target.kind ≡ expr.Name x → IsSome (register_of names x) → IsArithmetic names (room names 0) e → IsStatement names s
     prints : (names : List StrId) (s : Stat) (call : Expr) → s.kind ≡ stat.Call call → IsPrint names call → IsStatement names s
     chooses : (names : List StrId) (s : Stat) (arm : Arm) (other : Option (List Stat)) → s.kind ≡ stat.If (arm ∷ []) other → IsCondition names (out-Arm arm).cond → IsBlock names (out-Arm arm).body → IsOther names other → IsStatement names s
     loops : (names : List StrId) (s : Stat) (cond : Expr) (body : List Stat) → s.kind ≡ stat.While cond body → IsCondition names cond → IsBlock names body → IsStatement names s

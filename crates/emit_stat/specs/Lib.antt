@@ -4,3 +4,5 @@ pub mod Code
 pub mod Fits
 pub mod Correct
 pub mod Emitted
+pub mod Unbuilt
+pub mod Fitting

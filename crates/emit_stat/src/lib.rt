@@ -6,10 +6,12 @@ mod laws;
 mod scope;
 mod script;
 mod statements;
+mod unbuilt;
 mod values;
 
 pub use laws::has_report;
 pub use script::compile;
+pub use unbuilt::first_unbuilt;
 
 #[cfg(test)]
 mod tests;

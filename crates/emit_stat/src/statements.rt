@@ -1,7 +1,7 @@
 //! The code of statements.
 
 ghost use Rattle.std.specs.Prelude.{◌≡◌, ◌+◌, ◌^◌, ◌<◌, ◌≤◌, length, OnOk, Some, IsSome};
-ghost use Rattle.emit_stat.specs.Form.{unless, names_after, IsArithmetic, IsCondition, IsPrint, IsStatement, IsBlock};
+ghost use Rattle.emit_stat.specs.Form.{room, unless, names_after, IsArithmetic, IsCondition, IsPrint, IsStatement, IsBlock};
 ghost use Rattle.emit_stat.specs.Size.{expr_words, stat_words, block_words};
 ghost use Rattle.emit_stat.specs.Emitted.{NamesPrint, IsTarget, EmitsAssignment, EmitsPrint, EmitsTest, EmitsStatement, EmitsBlock};
 
@@ -25,7 +25,7 @@ fn emit_assignment(
     value: &Expr,
 ) -> Result<(), OutOfMemory>
     requires target { IsTarget scope.now target.now }
-    requires value { IsArithmetic scope.now 3 value.now }
+    requires value { IsArithmetic scope.now (room scope.now 0) value.now }
     requires few { length scope.now ≤ 200 }
     requires room { length code.old.constants.items + expr_words value.now ≤ 2 ^ 15 }
     ensures { OnOk result (EmitsAssignment scope.now target.now value.now code.old code.new) }

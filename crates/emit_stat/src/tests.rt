@@ -3,7 +3,7 @@ ghost use Rattle.syntax_tree.specs.declared.tree.Arm.{roll-Arm};
 ghost use Rattle.emit_stat.specs.Form.{IsBlock};
 ghost use Rattle.emit_stat.specs.Size.{block_words};
 
-use super::compile;
+use super::{compile, has_report};
 use byte_text::StrId;
 use sqlite_items::{Boxed, Items};
 use std::alloc::{AllocError, Global};
@@ -177,6 +177,8 @@ fn local_and_print(rt: HostRuntime) -> Result<(), Fail> {
 fn branch_and_loop(rt: HostRuntime) -> Result<(), Fail> {
     let alloc = rt.alloc();
     let body = counting(alloc)?;
+    // The law holds of this script as of each that is compiled: it has a report with each bound on its turns.
+    has_report();
     let code = compile(alloc, body.as_slice())?;
     let words = [
         // PREPVARARGS 0, LOADN 0 0

@@ -32,9 +32,9 @@ number_small n e v le k = record { form = IsArithmetic.number n e v k (omega ari
 name_small : (n : ℕ) (e : Expr) → 2 ≤ n → e.kind ≡ expr.Name a → IsSmall n e
 name_small n e le k = record { form = IsArithmetic.name n e a k refl (omega arith); words = omega (arith, words_of_name e a k) }
 
-sum_small : (e x y : Expr) (v : ℤ) → e.kind ≡ expr.Binary op.Add x y → x.kind ≡ expr.Name a → y.kind ≡ expr.Num v → IsSmall 3 e
+sum_small : (e x y : Expr) (v : ℤ) → e.kind ≡ expr.Binary op.Add x y → x.kind ≡ expr.Name a → y.kind ≡ expr.Num v → IsSmall 249 e
 sum_small e x y v k kx ky = record {
-  form = IsArithmetic.result 3 e x y op.Add k refl (name_small 3 x (omega arith) kx).form (number_small 2 y v (omega arith) ky).form;
+  form = IsArithmetic.result 249 e x y op.Add k refl (name_small 249 x (omega arith) kx).form (number_small 248 y v (omega arith) ky).form;
   words = omega (arith, words_of_result e x y op.Add k, words_of_name x a kx, words_of_number y v ky);
 }
 
@@ -44,14 +44,14 @@ record IsPlain (n : ℕ) (s : Stat) : Type 0 where
   after : names_after names s ≡ names
   words : stat_words s ≤ n
 
-print_plain : (s : Stat) (call callee e : Expr) → s.kind ≡ stat.Call call → call.kind ≡ expr.Call callee (e ∷ []) → callee.kind ≡ expr.Name print_name → IsSmall 3 e → IsPlain 6 s
+print_plain : (s : Stat) (call callee e : Expr) → s.kind ≡ stat.Call call → call.kind ≡ expr.Call callee (e ∷ []) → callee.kind ≡ expr.Name print_name → IsSmall 248 e → IsPlain 6 s
 print_plain s call callee e k kc kp small = record {
   form = IsStatement.prints names s call k (record { callee = callee; argument = e; kind = kc; print = kp; free = refl; value = small.form });
   after = names_after_call names s call k;
   words = omega (arith, words_of_call s call k, words_of_print call callee e kc, small.words);
 }
 
-assignment_plain : (s : Stat) (target e : Expr) → s.kind ≡ stat.Assign (target ∷ []) (e ∷ []) → target.kind ≡ expr.Name a → IsSmall 3 e → IsPlain 4 s
+assignment_plain : (s : Stat) (target e : Expr) → s.kind ≡ stat.Assign (target ∷ []) (e ∷ []) → target.kind ≡ expr.Name a → IsSmall 249 e → IsPlain 4 s
 assignment_plain s target e k kt small = record {
   form = IsStatement.assigns names s target e a k kt refl small.form;
   after = names_after_assignment names s (target ∷ []) (e ∷ []) k;
@@ -73,8 +73,8 @@ equal_test e x y v k kx ky = record {
   op = op.Eq;
   kind = k;
   compares = refl;
-  left_value = (name_small 3 x (omega arith) kx).form;
-  right_value = (number_small 3 y v (omega arith) ky).form;
+  left_value = (name_small 249 x (omega arith) kx).form;
+  right_value = (number_small 248 y v (omega arith) ky).form;
 }
 
 less_test : (e x y : Expr) (v : ℤ) → e.kind ≡ expr.Binary op.Lt x y → x.kind ≡ expr.Name a → y.kind ≡ expr.Num v → IsCondition names e
@@ -84,8 +84,8 @@ less_test e x y v k kx ky = record {
   op = op.Lt;
   kind = k;
   compares = refl;
-  left_value = (name_small 3 x (omega arith) kx).form;
-  right_value = (number_small 3 y v (omega arith) ky).form;
+  left_value = (name_small 249 x (omega arith) kx).form;
+  right_value = (number_small 248 y v (omega arith) ky).form;
 }
 
 arm_parts : (cond : Expr) (body : List Stat) → out-Arm (roll-Arm (record { cond = cond; body = body })) ≡ record { cond = cond; body = body }
@@ -113,7 +113,7 @@ loop_plain s t u cond x y v k kc kx ky p q = record {
 
 script_form : (s t : Stat) (e : Expr) (v : ℤ) → s.kind ≡ stat.Local (a ∷ []) (e ∷ []) → e.kind ≡ expr.Num v → IsPlain 30 t → IsBlock [] (s ∷ t ∷ [])
 script_form s t e v k ke p =
-    IsBlock.more [] s (t ∷ []) (omega arith) (IsStatement.declares [] s a e k (omega arith) (IsArithmetic.number 3 e v ke (omega arith)))
+    IsBlock.more [] s (t ∷ []) (omega arith) (IsStatement.declares [] s a e k (omega arith) (IsArithmetic.number 250 e v ke (omega arith)))
     (subst (λ ns. IsBlock ns (t ∷ [])) (sym (names_after_local [] s (a ∷ []) (e ∷ []) k)) (one_plain 30 t p))
 
 script_words : (s t : Stat) (e : Expr) (v : ℤ) → s.kind ≡ stat.Local (a ∷ []) (e ∷ []) → e.kind ≡ expr.Num v → IsPlain 30 t → block_words (s ∷ t ∷ []) ≤ 29998
@@ -122,8 +122,8 @@ script_words s t e v k ke p = omega (arith, words_of_local s a e k, words_of_num
 pub returns-clause-form : goal.returns-clause-form
 returns-clause-form c =
     let more = assignment_plain c.in_ok-more-2.more c.name-2.result c.in_ok-more.more c.in_ok-more-2.ensures c.name-2.ensures (sum_small c.in_ok-more.more c.name.result c.number-2.result _ c.in_ok-more.ensures c.name.ensures c.number-2.ensures) in
-    let twenty = print_plain c.stat.result c.in_ok-twenty.twenty c.name-3.result c.number-3.result c.stat.ensures c.in_ok-twenty.ensures c.name-3.ensures (number_small 3 c.number-3.result _ (omega arith) c.number-3.ensures) in
-    let print = print_plain c.stat-2.result c.in_ok-print.print c.name-4.result c.name-5.result c.stat-2.ensures c.in_ok-print.ensures c.name-4.ensures (name_small 3 c.name-5.result (omega arith) c.name-5.ensures) in
+    let twenty = print_plain c.stat.result c.in_ok-twenty.twenty c.name-3.result c.number-3.result c.stat.ensures c.in_ok-twenty.ensures c.name-3.ensures (number_small 248 c.number-3.result _ (omega arith) c.number-3.ensures) in
+    let print = print_plain c.stat-2.result c.in_ok-print.print c.name-4.result c.name-5.result c.stat-2.ensures c.in_ok-print.ensures c.name-4.ensures (name_small 248 c.name-5.result (omega arith) c.name-5.ensures) in
     let shown = choice_plain c.in_ok-shown.shown c.stat.result c.stat-2.result c.in_ok-is_two.is_two c.name-6.result c.number-4.result _ c.in_ok-shown.ensures c.in_ok-is_two.ensures c.name-6.ensures c.number-4.ensures twenty print in
     let loops = loop_plain c.in_ok-loops.loops c.in_ok-more-2.more c.in_ok-shown.shown c.in_ok-less.less c.name-7.result c.number-5.result _ c.in_ok-loops.ensures c.in_ok-less.ensures c.name-7.ensures c.number-5.ensures more shown in
     let form = script_form c.in_ok-first.first c.in_ok-loops.loops c.number.result _ c.in_ok-first.ensures c.number.ensures loops in
@@ -132,8 +132,8 @@ returns-clause-form c =
 pub returns-clause-small : goal.returns-clause-small
 returns-clause-small c =
     let more = assignment_plain c.in_ok-more-2.more c.name-2.result c.in_ok-more.more c.in_ok-more-2.ensures c.name-2.ensures (sum_small c.in_ok-more.more c.name.result c.number-2.result _ c.in_ok-more.ensures c.name.ensures c.number-2.ensures) in
-    let twenty = print_plain c.stat.result c.in_ok-twenty.twenty c.name-3.result c.number-3.result c.stat.ensures c.in_ok-twenty.ensures c.name-3.ensures (number_small 3 c.number-3.result _ (omega arith) c.number-3.ensures) in
-    let print = print_plain c.stat-2.result c.in_ok-print.print c.name-4.result c.name-5.result c.stat-2.ensures c.in_ok-print.ensures c.name-4.ensures (name_small 3 c.name-5.result (omega arith) c.name-5.ensures) in
+    let twenty = print_plain c.stat.result c.in_ok-twenty.twenty c.name-3.result c.number-3.result c.stat.ensures c.in_ok-twenty.ensures c.name-3.ensures (number_small 248 c.number-3.result _ (omega arith) c.number-3.ensures) in
+    let print = print_plain c.stat-2.result c.in_ok-print.print c.name-4.result c.name-5.result c.stat-2.ensures c.in_ok-print.ensures c.name-4.ensures (name_small 248 c.name-5.result (omega arith) c.name-5.ensures) in
     let shown = choice_plain c.in_ok-shown.shown c.stat.result c.stat-2.result c.in_ok-is_two.is_two c.name-6.result c.number-4.result _ c.in_ok-shown.ensures c.in_ok-is_two.ensures c.name-6.ensures c.number-4.ensures twenty print in
     let loops = loop_plain c.in_ok-loops.loops c.in_ok-more-2.more c.in_ok-shown.shown c.in_ok-less.less c.name-7.result c.number-5.result _ c.in_ok-loops.ensures c.in_ok-less.ensures c.name-7.ensures c.number-5.ensures more shown in
     let words = script_words c.in_ok-first.first c.in_ok-loops.loops c.number.result _ c.in_ok-first.ensures c.number.ensures loops in

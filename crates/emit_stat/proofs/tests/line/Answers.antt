@@ -15,9 +15,9 @@ a = record { 0 = 9 }
 
 line_form : (s t : Stat) (e f callee call : Expr) (n : ℤ) → s.kind ≡ stat.Local (a ∷ []) (e ∷ []) → e.kind ≡ expr.Num n → t.kind ≡ stat.Call call → call.kind ≡ expr.Call callee (f ∷ []) → callee.kind ≡ expr.Name print_name → f.kind ≡ expr.Name a → IsBlock [] (s ∷ t ∷ [])
 line_form s t e f callee call n ks ke kt kc kp kf =
-    IsBlock.more [] s (t ∷ []) (omega arith) (IsStatement.declares [] s a e ks (omega arith) (IsArithmetic.number 3 e n ke (omega arith)))
+    IsBlock.more [] s (t ∷ []) (omega arith) (IsStatement.declares [] s a e ks (omega arith) (IsArithmetic.number 250 e n ke (omega arith)))
     (subst (λ names. IsBlock names (t ∷ [])) (sym (names_after_local [] s (a ∷ []) (e ∷ []) ks))
-    (IsBlock.more (a ∷ []) t [] (omega arith) (IsStatement.prints (a ∷ []) t call kt (record { callee = callee; argument = f; kind = kc; print = kp; free = refl; value = IsArithmetic.name 3 f a kf refl (omega arith) }))
+    (IsBlock.more (a ∷ []) t [] (omega arith) (IsStatement.prints (a ∷ []) t call kt (record { callee = callee; argument = f; kind = kc; print = kp; free = refl; value = IsArithmetic.name 248 f a kf refl (omega arith) }))
     (subst (λ names. IsBlock names []) (sym (names_after_call (a ∷ []) t call kt)) (IsBlock.nothing (a ∷ []) (omega arith)))))
 
 pub returns-clause-form : goal.returns-clause-form
