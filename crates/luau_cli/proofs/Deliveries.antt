@@ -1,6 +1,5 @@
 -- How an answer was delivered, from what the two writes left.
-use Rattle.std.proofs.Common.{◌≡◌, ◌∙◌, ℕ, ◌<◌, ◌≤◌, ◌⊎◌, inl, inr, ⊎_elim, List, [], length, take, Option, Some, None, Result, Ok, Err, sym, ap, subst, arith, rules}
-use Rattle.std.specs.Prelude.{◌++◌}
+use Rattle.std.proofs.Common.{◌≡◌, ◌∙◌, ℕ, ◌≤◌, ◌⊎◌, inl, inr, ⊎_elim, List, [], length, take, Option, Some, None, ap, subst, arith, rules}
 use Rattle.std.proofs.Common.{append-nil}
 use Rattle.resource.specs.Faults.{Rose}
 use Rattle.outside_io.specs.Sinks.{appended}

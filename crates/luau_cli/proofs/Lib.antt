@@ -1,5 +1,6 @@
 pub mod CommandWords
 pub mod Deliveries
+pub mod Readings
+pub mod Refused
 pub mod Replying
-pub mod Compilable
 pub mod Outcomes

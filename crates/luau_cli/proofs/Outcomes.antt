@@ -1,13 +1,11 @@
 -- From the code and its run to the answer.
-use Rattle.std.proofs.Common.{◌≡◌, ◌≢◌, ◌∙◌, ℕ, List, [], ◌∷◌, ◌++◌, Result, Ok, Err, IfOk, refl, sym, ap, subst, codes}
-use Rattle.std.specs.Fmt.{decimal}
+use Rattle.std.proofs.Common.{◌≡◌, ◌≢◌, ◌∙◌, ℕ, List, Result, Ok, Err, IfOk, refl, sym, ap, subst, codes}
 use Rattle.resource.specs.declared.memory.OutOfMemory.{OutOfMemory}
 use Rattle.syntax_tree.specs.declared.tree.Stat.{Stat}
+use Rattle.syntax_tree.specs.declared.tree.Tree.{Tree}
 use Rattle.value_model.specs.declared.end.End.{End}
 use Rattle.value_model.specs.declared.end.End.TheVariants.{Ended, Stopped, Unfinished, Stuck}
 use Rattle.value_model.specs.Runs.{Report}
-use Rattle.script_reader.specs.Grammar.{IsScript}
-use Rattle.script_reader.specs.Refusal.{IsRefusedAt}
 use Rattle.machine_meaning.specs.declared.code.Code.{Code}
 use Rattle.machine_meaning.specs.Steps.{Look}
 use Rattle.machine_meaning.specs.Runs.{MachineRun}
@@ -15,7 +13,8 @@ use Rattle.emit_stat.specs.Correct.{Behaves}
 use Rattle.luau_vm.specs.declared.running.Ran.{Ran}
 use Rattle.luau_vm.specs.Shown.{Shows, line_of, lines_of}
 use Rattle.luau_cli.specs.declared.reply.Reply.{Reply}
-use Rattle.luau_cli.specs.Answer.{Answer, refusal, IsReported, AnswersScript, refused, runs}
+use Rattle.luau_cli.specs.Answer.{refusal, refusal_text, IsReported, AnswersScript, refused, runs}
+use Rattle.luau_cli.specs.Refusals.{Cause, statements, IsScript, IsRefused}
 use Rattle.luau_cli.specs.Making.{answer_of}
 
 -- what the machine made of a script's code
@@ -37,16 +36,16 @@ reported stats code turns ran b run =
     let same : ran.end ≡ source.0.end = run.2.end ∙ sym source.2.end in
     reported_end ran.end (λ stuck. b.sound turns source.0 source.1 (sym same ∙ stuck))
 
-pub answers_run : (bytes : List ℕ) (stats : List Stat) (code : Code) (turns : ℕ) (ran : Ran) (m : Result Reply OutOfMemory) → IsScript bytes stats → Behaves stats code.words.items code.constants.items → HasRunTo code turns ran → IfOk m (λ reply. (status : ℕ) × (text : List ℕ) × IsReported ran.end status text × (answer_of reply ≡ record { status = status; output = ran.output.items; report = line_of text })) → IfOk m (λ reply. AnswersScript bytes turns (answer_of reply))
-answers_run bytes stats code turns ran (Ok reply) script b run made =
+pub answers_run : (bytes : List ℕ) (tree : Tree) (code : Code) (turns : ℕ) (ran : Ran) (m : Result Reply OutOfMemory) → IsScript bytes tree → Behaves (statements tree) code.words.items code.constants.items → HasRunTo code turns ran → IfOk m (λ reply. (status : ℕ) × (text : List ℕ) × IsReported ran.end status text × (answer_of reply ≡ record { status = status; output = ran.output.items; report = line_of text })) → IfOk m (λ reply. AnswersScript bytes turns (answer_of reply))
+answers_run bytes tree code turns ran (Ok reply) script b run made =
     let source = b.to_source turns run.0 run.1 in
     let end : ran.end ≡ source.0.end = run.2.end ∙ sym source.2.end in
     let output : ran.output.items ≡ lines_of source.0.events = run.2.output ∙ ap lines_of (sym source.2.events) in
     let is : answer_of reply ≡ record { status = made.0; output = lines_of source.0.events; report = line_of made.1 } = made.3 ∙ ap (λ (o : List ℕ). record { status = made.0; output = o; report = line_of made.1 }) output in
-    subst (λ a. AnswersScript bytes turns a) (sym is) (runs stats source.0 made.0 made.1 script source.1 (subst (λ e. IsReported e made.0 made.1) end made.2))
-answers_run bytes stats code turns ran (Err e) script b run made = tt
+    subst (λ a. AnswersScript bytes turns a) (sym is) (runs tree source.0 made.0 made.1 script source.1 (subst (λ e. IsReported e made.0 made.1) end made.2))
+answers_run bytes tree code turns ran (Err e) script b run made = tt
 
-pub answers_refusal : (bytes : List ℕ) (turns place : ℕ) (text : List ℕ) (r : Result Reply OutOfMemory) → IsRefusedAt bytes place → text ≡ decimal place → IfOk r (λ m. answer_of m ≡ refusal 3 (codes "1 refused: NotBuilt 60 at " ++ text)) → IfOk r (λ m. AnswersScript bytes turns (answer_of m))
-answers_refusal bytes turns place text (Ok m) at is made =
-    subst (λ a. AnswersScript bytes turns a) (sym (made ∙ ap (λ t. refusal 3 (codes "1 refused: NotBuilt 60 at " ++ t)) is)) (refused place at)
-answers_refusal bytes turns place text (Err e) at is made = tt
+-- a text that is refused
+pub answers_refused : (bytes : List ℕ) (turns : ℕ) (c : Cause) (r : Result Reply OutOfMemory) → IsRefused bytes c → IfOk r (λ m. answer_of m ≡ refusal 3 (refusal_text c)) → IfOk r (λ m. AnswersScript bytes turns (answer_of m))
+answers_refused bytes turns c (Ok m) is made = subst (λ a. AnswersScript bytes turns a) (sym made) (refused c is)
+answers_refused bytes turns c (Err e) is made = tt

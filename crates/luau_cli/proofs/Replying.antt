@@ -1,6 +1,6 @@
 -- From what was read and written to what the program answers.
-use Rattle.std.proofs.Common.{◌≡◌, ◌∙◌, ℕ, ◌<◌, ◌≤◌, ◌⊎◌, inl, inr, ⊎_elim, List, [], ◌∷◌, ◌++◌, length, get_or, map, Option, Some, None, Result, Ok, Err, refl, sym, ap, subst, arith, rules, IfOk, codes}
-use Rattle.std.specs.Prelude.{IfSome, OnOk, OnErr, take, Vec, MatchOption}
+use Rattle.std.proofs.Common.{◌≡◌, ◌∙◌, ℕ, ◌≤◌, ◌⊎◌, inl, inr, List, [], ◌++◌, length, Option, Some, None, Result, Ok, Err, refl, sym, ap, subst, arith, IfOk, codes}
+use Rattle.std.specs.Prelude.{IfSome, OnOk, OnErr, take, Vec}
 use Rattle.std.specs.declared.alloc.Global.{Global}
 use Rattle.resource.specs.Faults.{Rose}
 use Rattle.resource.specs.declared.memory.OutOfMemory.{OutOfMemory}
@@ -9,9 +9,7 @@ use Rattle.outside_io.specs.Files.{Contents, ReadsAll, ReadFaults}
 use Rattle.outside_io.specs.declared.reading.ReadErr.{ReadErr}
 use Rattle.outside_io.specs.declared.reading.ReadErr.TheVariants.{Missing, ReadFault, TooLarge}
 use Rattle.outside_io.specs.declared.writing.WriteErr.{WriteErr}
-use Rattle.syntax_tree.specs.declared.tree.Stat.{Stat}
-use Rattle.script_reader.specs.Grammar.{IsScript}
-use Rattle.script_reader.specs.Refusal.{IsRefusedAt}
+use Rattle.syntax_tree.specs.declared.tree.Tree.{Tree}
 use Rattle.value_model.specs.declared.end.End.{End}
 use Rattle.luau_vm.specs.Shown.{line_of}
 use Rattle.luau_cli.specs.Command.{RunFile}
@@ -20,9 +18,11 @@ use Rattle.luau_cli.specs.Answer as answer
 use Rattle.luau_cli.specs.Delivery.{Change, IsUntouched, GainsFront, Delivers, whole, no_output, no_report}
 use Rattle.luau_cli.specs.Delivery as delivery
 use Rattle.luau_cli.specs.Making.{answer_of}
+use Rattle.luau_cli.specs.Refusals.{IsScript}
 use Rattle.luau_cli.specs.declared.reply.Reply.{Reply}
 use Rattle.luau_cli.proofs.CommandWords.{same_run}
 use Rattle.luau_cli.proofs.Deliveries.{gains, gains_front, appended_nothing}
+use Rattle.luau_cli.proofs.Refused.{refused_or_script}
 
 -- what is told of a file and what is answered give what is answered for the file
 pub told_answers : (P : Option (List ℕ) → Type 0) (Q : Answer → Type 0) (R : Option (List ℕ) → Answer → Type 0) → ((content : Option (List ℕ)) (a : Answer) → P content → Q a → R content a) → (told : Contents) (file : List ℕ) (r : Result Reply OutOfMemory) → IfSome told (λ files. P (files file)) → IfOk r (λ m. Q (answer_of m)) → IfSome told (λ files. IfOk r (λ m. R (files file) (answer_of m)))
@@ -84,22 +84,22 @@ reported_ran _ _ _ IsReported.ended = inl (omega arith)
 reported_ran _ _ _ (IsReported.stopped stop) = inl (omega arith)
 reported_ran _ _ _ IsReported.spent = inr refl
 
--- a script that is of the form runs
-script_status : (bytes : List ℕ) (turns : ℕ) (a : Answer) (stats : List Stat) → ((place : ℕ) → IsRefusedAt bytes place → (ss : List Stat) → IsScript bytes ss → ⊥) → IsScript bytes stats → AnswersScript bytes turns a → HasRun a.status
-script_status bytes turns a stats apart form (answer.refused place at) = absurd (apart place at stats form)
-script_status bytes turns a stats apart form (answer.runs ss r status text script run reported) = reported_ran r.end status text reported
+-- a script all of which is built runs
+script_status : (bytes : List ℕ) (turns : ℕ) (a : Answer) (tree : Tree) → IsScript bytes tree → AnswersScript bytes turns a → HasRun a.status
+script_status bytes turns a tree script (answer.refused c is) = absurd (refused_or_script bytes c is tree script)
+script_status bytes turns a tree script (answer.runs other r status text s run reported) = reported_ran r.end status text reported
 
-file_status : (file : List ℕ) (turns before now : ℕ) (bytes : List ℕ) (stats : List Stat) (content : Option (List ℕ)) (a : Answer) → content ≡ Some bytes → ((place : ℕ) → IsRefusedAt bytes place → (ss : List Stat) → IsScript bytes ss → ⊥) → length bytes ≤ size_limit → IsScript bytes stats → (Rose before now → ⊥) → AnswersFile file turns before now content a → HasRun a.status
-file_status file turns before now bytes stats content a e apart few form quiet (answer.missing q) = absurd (let no : None ≡ Some bytes = e in cc)
-file_status file turns before now bytes stats content a e apart few form quiet (answer.too_large bs q large) = let same : bs ≡ bytes = cc in absurd (omega (arith, ap length same))
-file_status file turns before now bytes stats content a e apart few form quiet (answer.read_fault bs rose) = absurd (quiet rose)
-file_status file turns before now bytes stats content a e apart few form quiet (answer.read bs b q small script) =
-    let same : bs ≡ bytes = cc in script_status bytes turns b stats apart form (subst (λ z. AnswersScript z turns b) same script)
+file_status : (file : List ℕ) (turns before now : ℕ) (bytes : List ℕ) (tree : Tree) (content : Option (List ℕ)) (a : Answer) → content ≡ Some bytes → length bytes ≤ size_limit → IsScript bytes tree → (Rose before now → ⊥) → AnswersFile file turns before now content a → HasRun a.status
+file_status file turns before now bytes tree content a e few script quiet (answer.missing q) = absurd (let no : None ≡ Some bytes = e in cc)
+file_status file turns before now bytes tree content a e few script quiet (answer.too_large bs q large) = let same : bs ≡ bytes = cc in absurd (omega (arith, ap length same))
+file_status file turns before now bytes tree content a e few script quiet (answer.read_fault bs rose) = absurd (quiet rose)
+file_status file turns before now bytes tree content a e few script quiet (answer.read bs b q small answers) =
+    let same : bs ≡ bytes = cc in script_status bytes turns b tree script (subst (λ z. AnswersScript z turns b) same answers)
 
-pub runs_script : (told : Contents) (words : List (List ℕ)) (file : List ℕ) (turns before now : ℕ) (a : Answer) (out report : Change) (status : ℕ) → ((bytes : List ℕ) (place : ℕ) → IsRefusedAt bytes place → (ss : List Stat) → IsScript bytes ss → ⊥) → RunFile words turns file → IfSome told (λ files. AnswersFile file turns before now (files file) a) → Delivers a out report status → IfSome told (λ files. (stats : List Stat) → RunsScript files words stats → (Rose before now → ⊥) → (Rose out.before out.now → ⊥) → (Rose report.before report.now → ⊥) → HasRun status ⊎ (status ≡ 6))
-runs_script None words file turns before now a out report status apart run for made = tt
-runs_script (Some files) words file turns before now a out report status apart run for made = λ stats r quiet out_quiet report_quiet.
+pub runs_script : (told : Contents) (words : List (List ℕ)) (file : List ℕ) (turns before now : ℕ) (a : Answer) (out report : Change) (status : ℕ) → RunFile words turns file → IfSome told (λ files. AnswersFile file turns before now (files file) a) → Delivers a out report status → IfSome told (λ files. (tree : Tree) → RunsScript files words tree → (Rose before now → ⊥) → (Rose out.before out.now → ⊥) → (Rose report.before report.now → ⊥) → HasRun status ⊎ (status ≡ 6))
+runs_script None words file turns before now a out report status run for made = tt
+runs_script (Some files) words file turns before now a out report status run for made = λ tree r quiet out_quiet report_quiet.
     let same = same_run words r.turns turns r.file file r.words_are run in
-    let small = file_status file turns before now r.bytes stats (files file) a (ap files (sym same.1) ∙ r.there) (apart r.bytes) r.few r.form quiet for in
+    let ran = file_status file turns before now r.bytes tree (files file) a (ap files (sym same.1) ∙ r.there) r.few r.script quiet for in
     let is = quiet_status a out report status out_quiet report_quiet made in
-    inl (subst (λ s. HasRun s) (sym is) small)
+    inl (subst (λ s. HasRun s) (sym is) ran)

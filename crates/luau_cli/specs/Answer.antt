@@ -1,19 +1,18 @@
 -- What the program answers.
-use Rattle.std.specs.Prelude.{◌≡◌, ℕ, ◌<◌, ◌≤◌, ◌⊎◌, List, [], ◌∷◌, ◌++◌, length, Option, Some, None, codes}
+use Rattle.std.specs.Prelude.{◌≡◌, ℕ, ◌<◌, ◌≤◌, ◌⊎◌, List, [], ◌++◌, length, Option, Some, None, codes}
 use Rattle.std.specs.Fmt.{decimal}
 use Rattle.resource.specs.Faults.{Rose}
 use Rattle.whole_num.specs.declared.arithmetic.Stop.{Stop}
 use Rattle.whole_num.specs.Whole.{stop_text}
-use Rattle.syntax_tree.specs.declared.tree.Stat.{Stat}
+use Rattle.syntax_tree.specs.declared.tree.Tree.{Tree}
 use Rattle.value_model.specs.declared.end.End.{End}
 use Rattle.value_model.specs.declared.end.End.TheVariants.{Ended, Stopped, Unfinished}
 use Rattle.value_model.specs.Runs.{Report}
-use Rattle.script_reader.specs.Grammar.{IsScript}
-use Rattle.script_reader.specs.Refusal.{IsRefusedAt}
 use Rattle.source_meaning.specs.Steps.{Look}
 use Rattle.source_meaning.specs.Runs.{SourceRun}
 use Rattle.luau_vm.specs.Shown.{line_of, lines_of}
 use Rattle.luau_cli.specs.Command.{RunFile}
+use Rattle.luau_cli.specs.Refusals.{Cause, statements, IsScript, IsRefused}
 
 -- a status, the bytes of the output, and those of the report
 pub record Answer : Type 0 where
@@ -37,10 +36,14 @@ size_limit = 1048576
 abbrev pub refusal : (status : ℕ) → (text : List ℕ) → Answer
 refusal status text = record { status = status; output = []; report = line_of text }
 
--- the answer to a script: where it is refused, or what its run prints with so many turns and how it ends
+-- the line that tells why a script is refused
+abbrev pub refusal_text : Cause → List ℕ
+refusal_text c = codes "1 refused: " ++ (c.name ++ (codes " at " ++ decimal c.at))
+
+-- the answer to a script: why and where it is refused, or what its run prints with so many turns and how it ends
 pub data AnswersScript (bytes : List ℕ) (turns : ℕ) : Answer → Type 0 where
-  refused : (place : ℕ) → IsRefusedAt bytes place → AnswersScript bytes turns (refusal 3 (codes "1 refused: NotBuilt 60 at " ++ decimal place))
-  runs : (stats : List Stat) (r : Report (List ℕ) Look) (status : ℕ) (text : List ℕ) → IsScript bytes stats → SourceRun stats turns r → IsReported r.end status text → AnswersScript bytes turns (record { status = status; output = lines_of r.events; report = line_of text })
+  refused : (c : Cause) → IsRefused bytes c → AnswersScript bytes turns (refusal 3 (refusal_text c))
+  runs : (tree : Tree) (r : Report (List ℕ) Look) (status : ℕ) (text : List ℕ) → IsScript bytes tree → SourceRun (statements tree) turns r → IsReported r.end status text → AnswersScript bytes turns (record { status = status; output = lines_of r.events; report = line_of text })
 
 -- the answer for a file, which is there or not, where the files' count of faults was `before` and is `now`
 pub data AnswersFile (file : List ℕ) (turns before now : ℕ) : Option (List ℕ) → Answer → Type 0 where
@@ -66,12 +69,12 @@ HasRefused status = (status ≡ 2) ⊎ (status ≡ 3) ⊎ (status ≡ 4) ⊎ (st
 abbrev pub IsProper : Answer → Type 0
 IsProper a = HasRun a.status ⊎ (((a.status ≡ 3) ⊎ (a.status ≡ 4) ⊎ (a.status ≡ 10)) × (a.output ≡ []))
 
--- the words run a file that is there, is no larger than a file may be, and holds a script of the form
-pub record RunsScript (contents : List ℕ → Option (List ℕ)) (words : List (List ℕ)) (stats : List Stat) : Type 0 where
+-- the words run a file that is there, is no larger than a file may be, and holds an accepted script all of which is built
+pub record RunsScript (contents : List ℕ → Option (List ℕ)) (words : List (List ℕ)) (tree : Tree) : Type 0 where
   pub turns : ℕ
   pub file : List ℕ
   pub bytes : List ℕ
   pub words_are : RunFile words turns file
   pub there : contents file ≡ Some bytes
   pub few : length bytes ≤ size_limit
-  pub form : IsScript bytes stats
+  pub script : IsScript bytes tree

@@ -1,5 +1,5 @@
 -- What the two sinks hold after an answer was written to them, where writes may fail.
-use Rattle.std.specs.Prelude.{◌≡◌, ℕ, ◌<◌, ◌≤◌, List, Option, length, take}
+use Rattle.std.specs.Prelude.{◌≡◌, ℕ, ◌≤◌, List, Option, length, take}
 use Rattle.resource.specs.Faults.{Rose}
 use Rattle.outside_io.specs.Sinks.{appended}
 use Rattle.luau_cli.specs.Answer.{Answer, HasRun, HasRefused}

@@ -1,4 +1,5 @@
 pub mod Command
+pub mod Refusals
 pub mod Answer
 pub mod Delivery
 pub mod Making

@@ -2,7 +2,9 @@
 #![tactic(auto)]
 
 mod outcome;
+mod refusal;
 mod reply;
+mod script;
 #[cfg(test)]
 mod tests;
 mod top;

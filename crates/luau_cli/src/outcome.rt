@@ -3,15 +3,16 @@
 ghost use Rattle.std.specs.Prelude.{◌≡◌, ℕ, List, IfOk};
 ghost use Rattle.value_model.specs.declared.end.End.{End};
 ghost use Rattle.luau_vm.specs.Shown.{line_of};
-ghost use Rattle.luau_cli.specs.Answer.{AnswersScript, IsProper, IsReported};
+ghost use Rattle.luau_cli.specs.Answer.{refusal, refusal_text, AnswersScript, IsProper, IsReported};
+ghost use Rattle.luau_cli.specs.Refusals.{cause_of};
 ghost use Rattle.luau_cli.specs.Making.{answer_of};
 
+use crate::refusal::Refusal;
 use crate::reply::{Reply, SPENT, line};
-use byte_text::Interner;
+use crate::script::{Reading, read_script};
 use emit_stat::compile;
 use luau_vm::{Ran, run};
 use resource::OutOfMemory;
-use script_reader::{Reading, read};
 use std::alloc::Global;
 use value_model::End;
 
@@ -21,28 +22,28 @@ const STOPPED: u8 = 1;
 
 const REFUSED: u8 = 3;
 
-/// What a script answers: where it is refused, or what its run prints with so many turns and how it ends.
+/// What a script answers: why and where it is refused, or what its run prints with so many turns and how it ends.
 pub fn reply_to_script(alloc: Global, source: &[u8], turns: u32) -> Result<Reply, OutOfMemory>
     ensures answers { IfOk result (λ r. AnswersScript source.now turns (answer_of r)) }
     ensures proper { IfOk result (λ r. IsProper (answer_of r)) }
 {
-    let mut names = Interner::new(alloc);
-    match read(alloc, source, &mut names)? {
-        Reading::Refused(place) => {
-            let place = format!(in alloc; "{place}")?;
-            Reply::refusal(
-                alloc,
-                REFUSED,
-                b"1 refused: NotBuilt 60 at ",
-                place.as_bytes(),
-            )
-        }
+    match read_script(alloc, source)? {
+        Reading::Refused(refusal) => reply_to_refused(alloc, &refusal),
         Reading::Script(tree) => {
             let code = compile(alloc, tree.main.body.as_slice())?;
             let ran = run(alloc, &code, turns)?;
             reply_to_run(alloc, ran)
         }
     }
+}
+
+/// The reply to a script that is refused.
+fn reply_to_refused(alloc: Global, why: &Refusal) -> Result<Reply, OutOfMemory>
+    ensures { IfOk result (λ r. answer_of r ≡ refusal 3 (refusal_text (cause_of why.now))) }
+{
+    let Refusal { cause, at } = why;
+    let text = format!(in alloc; "{cause} at {at}")?;
+    Reply::refusal(alloc, REFUSED, b"1 refused: ", text.as_bytes())
 }
 
 /// The reply to a script that ran.

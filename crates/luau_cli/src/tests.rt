@@ -1,5 +1,6 @@
 use crate::top::top;
 use outside_io::{MemFiles, MemSink};
+use std::alloc::Global;
 use std::process::Abort;
 use std::test::Fail;
 
@@ -65,10 +66,14 @@ fn expect_run(
 
 const ENDED: &[u8] = b"1 ended\n";
 
+const NOT_BUILT: &str = "NotBuilt 60";
+
 #[test]
 fn scripts_print_and_end(rt: HostRuntime) -> Result<(), Fail> {
-    let rows: [(&[u8], &[u8]); 8] = [
+    let rows: [(&[u8], &[u8]); 10] = [
         (b"", b""),
+        (b"type T = number print(1)", b"1\n"),
+        (b"local a = 1; print(a);", b"1\n"),
         (
             b"local a = 2 local b = a * 3 - 1 print(b) print(a + b)",
             b"5\n7\n",
@@ -217,111 +222,190 @@ fn scripts_stop_out_of_range(rt: HostRuntime) -> Result<(), Fail> {
     Ok(())
 }
 
+fn expect_refused(
+    rt: &(impl Abort + AllocGlobal),
+    script: &[u8],
+    cause: &str,
+    at: usize,
+) -> Result<(), Fail> {
+    let report = format!(in rt.alloc(); "1 refused: {cause} at {at}\n")?;
+    let wanted = Wanted {
+        status: 3,
+        output: b"",
+        report: report.as_bytes(),
+    };
+    expect_run(rt, script, &wanted)
+}
+
 #[test]
-fn other_texts_are_refused(rt: HostRuntime) -> Result<(), Fail> {
-    let rows: [(&[u8], usize); 6] = [
-        (b"print(x)", 6),
-        (b"a = 1", 0),
-        (b"if 1 == 1 then local a = 1 end print(a)", 37),
-        (b"while 1 == 1 do print(1)", 24),
-        (b"local a = ", 10),
-        (b"print(1) print(2.5)", 15),
+fn each_refusal_has_its_place(rt: HostRuntime) -> Result<(), Fail> {
+    let rows: [(&[u8], &str, usize); 27] = [
+        (b"print(1) @", "BadByte 1", 9),
+        (b"print(\"a", "UnfinishedString 2", 6),
+        (b"print(\"a\\xZZ\")", "BadEscape 3", 8),
+        (b"print(1) --[[ a", "UnfinishedComment 4", 9),
+        (b"print(3a)", "BadNumber 5", 6),
+        (b"print(1.5)", "NotWholeLiteral 6", 6),
+        (b"print(9007199254740993)", "LiteralRange 7", 6),
+        (b"print(`a{{1}`)", "DoubleBrace 8", 8),
+        (b"print(1))", "Unexpected 10", 8),
+        (b"local a = ", "Unexpected 10", 9),
+        (b"while 1 == 1 do print(1)", "Unexpected 10", 24),
+        (b"local f = print\n(f)(1)", "AmbiguousCall 12", 16),
+        (b"print(1) break", "LoopWordOutside 20", 9),
+        (
+            b"repeat if x then continue end local y = 1 until y",
+            "UntilSkipsLocal 21",
+            17,
+        ),
+        (b"local function f() return ... end", "VarargOutside 22", 26),
+        (b"print(x)", NOT_BUILT, 6),
+        (b"local a", NOT_BUILT, 0),
+        (b"local a, b = 1, 2", NOT_BUILT, 0),
+        (b"if 1 == 1 then elseif 2 == 2 then end", NOT_BUILT, 0),
+        (b"local a = 1 < 2", NOT_BUILT, 10),
+        (b"if 1 then end", NOT_BUILT, 3),
+        (b"local print = 1 print(2)", NOT_BUILT, 16),
+        (b"a = 1", NOT_BUILT, 0),
+        (b"local a = (1)", NOT_BUILT, 10),
+        (b"if 1 == 1 then local a = 1 end print(a)", NOT_BUILT, 37),
+        // The first fault of the tokens goes before the rules, and a broken rule before what is not built.
+        (b"break print(1.5)", "NotWholeLiteral 6", 12),
+        (b"local a break", "LoopWordOutside 20", 8),
     ];
-    for (script, place) in rows {
-        let report = format!(in rt.alloc(); "1 refused: NotBuilt 60 at {place}\n")?;
-        let wanted = Wanted {
-            status: 3,
-            output: b"",
-            report: report.as_bytes(),
-        };
-        expect_run(&rt, script, &wanted)?;
+    for (script, cause, at) in rows {
+        expect_refused(&rt, script, cause, at)?;
     }
     Ok(())
 }
 
-#[test]
-fn locals_are_limited(rt: HostRuntime) -> Result<(), Fail> {
-    let alloc = rt.alloc();
-    let mut locals = Vec::new(alloc);
-    for _ in 0..200 {
-        locals.extend_from_slice(b"local a = 1\n")?;
+/// The parts one after another, each as often as it says.
+fn text_of(alloc: Global, parts: &[(&[u8], usize)]) -> Result<Vec<u8>, Fail> {
+    let mut text = Vec::new(alloc);
+    for (part, times) in parts {
+        for _ in 0..*times {
+            text.extend_from_slice(part)?;
+        }
     }
-    let wanted = Wanted {
-        status: 0,
-        output: b"",
-        report: ENDED,
-    };
-    expect_run(&rt, locals.as_slice(), &wanted)?;
-    locals.extend_from_slice(b"local a = 1\n")?;
-    let wanted = Wanted {
-        status: 3,
-        output: b"",
-        report: b"1 refused: NotBuilt 60 at 2400\n",
-    };
-    expect_run(&rt, locals.as_slice(), &wanted)?;
+    Ok(text)
+}
 
-    // A block's locals are gone at its end.
-    let mut blocks = Vec::new(alloc);
-    for _ in 0..199 {
-        blocks.extend_from_slice(b"local a = 1\n")?;
-    }
-    blocks.extend_from_slice(b"if a == 1 then local b = 2 else local c = 3 end local d = 4\n")?;
+/// A script of such parts ends, and prints a number so many times.
+fn expect_printed(
+    rt: &(impl Abort + AllocGlobal),
+    parts: &[(&[u8], usize)],
+    line: &[u8],
+    times: usize,
+) -> Result<(), Fail> {
+    let script = text_of(rt.alloc(), parts)?;
+    let output = text_of(rt.alloc(), &[(line, times)])?;
     let wanted = Wanted {
         status: 0,
-        output: b"",
+        output: output.as_slice(),
         report: ENDED,
     };
-    expect_run(&rt, blocks.as_slice(), &wanted)
+    expect_run(rt, script.as_slice(), &wanted)
 }
 
 #[test]
-fn open_blocks_are_limited(rt: HostRuntime) -> Result<(), Fail> {
-    let alloc = rt.alloc();
-    let mut nested = Vec::new(alloc);
-    for _ in 0..100 {
-        nested.extend_from_slice(b"if 1 == 1 then ")?;
-    }
-    let mut deeper = nested.clone()?;
-    nested.extend_from_slice(b"print(1)")?;
-    for _ in 0..100 {
-        nested.extend_from_slice(b" end")?;
-    }
-    let wanted = Wanted {
-        status: 0,
-        output: b"1\n",
-        report: ENDED,
-    };
-    expect_run(&rt, nested.as_slice(), &wanted)?;
-    deeper.extend_from_slice(b"while 1 == 1 do")?;
-    let wanted = Wanted {
-        status: 3,
-        output: b"",
-        report: b"1 refused: NotBuilt 60 at 1500\n",
-    };
-    expect_run(&rt, deeper.as_slice(), &wanted)
+fn what_is_within_the_limits_runs(rt: HostRuntime) -> Result<(), Fail> {
+    // 200 locals, and 199 with others whose blocks have ended
+    expect_printed(&rt, &[(b"local a = 1\n", 200)], b"", 0)?;
+    let blocks = b"if a == 1 then local b = 2 else local c = 3 end local d = 4";
+    expect_printed(&rt, &[(b"local a = 1\n", 199), (blocks, 1)], b"", 0)?;
+
+    // The call is the 200th node that nests.
+    let branches: [(&[u8], usize); 3] = [
+        (b"if 1 == 1 then ", 199),
+        (b"print(1)", 1),
+        (b" end", 199),
+    ];
+    expect_printed(&rt, &branches, b"1\n", 1)?;
+    let sum: [(&[u8], usize); 3] = [(b"print(0", 1), (b"+2", 199), (b")", 1)];
+    expect_printed(&rt, &sum, b"398\n", 1)?;
+
+    // bulk 8 + 26 * 1,153 = 29,986
+    expect_printed(&rt, &[(b"print(1) ", 1153)], b"1\n", 1153)
+}
+
+fn expect_parts_refused(
+    rt: &(impl Abort + AllocGlobal),
+    parts: &[(&[u8], usize)],
+    cause: &str,
+    at: usize,
+) -> Result<(), Fail> {
+    let script = text_of(rt.alloc(), parts)?;
+    expect_refused(rt, script.as_slice(), cause, at)
 }
 
 #[test]
-fn tokens_are_limited(rt: HostRuntime) -> Result<(), Fail> {
-    let alloc = rt.alloc();
-    let mut sum = Vec::from_slice(alloc, b"print(0")?;
-    for _ in 0..7498 {
-        sum.extend_from_slice(b"+2")?;
+fn what_is_beyond_the_limits_is_refused(rt: HostRuntime) -> Result<(), Fail> {
+    expect_parts_refused(
+        &rt,
+        &[(b"local a = 1\n", 201)],
+        "TooManyLocals 23",
+        200 * 12,
+    )?;
+
+    // The 201st node that nests is the comparison of the 200th branch, and the 200th sum.
+    expect_parts_refused(
+        &rt,
+        &[(b"if 1 == 1 then ", 200), (b" end", 200)],
+        "TooDeep 11",
+        199 * 15 + 5,
+    )?;
+    let sum: [(&[u8], usize); 3] = [(b"print(0", 1), (b"+2", 200), (b")", 1)];
+    expect_parts_refused(&rt, &sum, "TooDeep 11", 7 + 199 * 2)?;
+
+    // A call holds its callee and its arguments.
+    let called: [(&[u8], usize); 3] = [(b"f(1", 1), (b", 1", 248), (b")", 1)];
+    expect_parts_refused(&rt, &called, NOT_BUILT, 0)?;
+    let wide: [(&[u8], usize); 3] = [(b"local function f() f(1", 1), (b", 1", 249), (b") end", 1)];
+    expect_parts_refused(&rt, &wide, "TooWide 25", 6)?;
+
+    // bulk 8 + 26 * 1,154 = 30,012
+    let long: [(&[u8], usize); 3] = [
+        (b"local function f() ", 1),
+        (b"print(1) ", 1154),
+        (b"end", 1),
+    ];
+    expect_parts_refused(&rt, &long, "TooLong 26", 6)
+}
+
+/// A function that sets 150 locals of the script and then some of the function around it.
+fn capturing(alloc: Global, outer: usize) -> Result<Vec<u8>, Fail> {
+    let mut text = Vec::new(alloc);
+    for i in 0..150 {
+        let local = format!(in alloc; "local a{i} ")?;
+        text.extend_from_slice(local.as_bytes())?;
     }
-    sum.extend_from_slice(b")")?;
-    let wanted = Wanted {
-        status: 0,
-        output: b"14996\n",
-        report: ENDED,
-    };
-    expect_run(&rt, sum.as_slice(), &wanted)?;
-    sum.extend_from_slice(b" print(1)")?;
-    let wanted = Wanted {
-        status: 3,
-        output: b"",
-        report: b"1 refused: NotBuilt 60 at 15005\n",
-    };
-    expect_run(&rt, sum.as_slice(), &wanted)
+    text.extend_from_slice(b"local function f() ")?;
+    for i in 0..60 {
+        let local = format!(in alloc; "local b{i} ")?;
+        text.extend_from_slice(local.as_bytes())?;
+    }
+    text.extend_from_slice(b"local function g() ")?;
+    for i in 0..150 {
+        let set = format!(in alloc; "a{i} = 1 ")?;
+        text.extend_from_slice(set.as_bytes())?;
+    }
+    for i in 0..outer {
+        let set = format!(in alloc; "b{i} = 1 ")?;
+        text.extend_from_slice(set.as_bytes())?;
+    }
+    Ok(text)
+}
+
+#[test]
+fn captured_variables_are_limited(rt: HostRuntime) -> Result<(), Fail> {
+    let alloc = rt.alloc();
+    let mut text = capturing(alloc, 50)?;
+    let at = text.len();
+    let mut more = text.clone()?;
+    text.extend_from_slice(b"a0 = 1 end end")?;
+    expect_refused(&rt, text.as_slice(), NOT_BUILT, 0)?;
+    more.extend_from_slice(b"b50 = 1 end end")?;
+    expect_refused(&rt, more.as_slice(), "TooManyUpvalues 24", at)
 }
 
 #[test]

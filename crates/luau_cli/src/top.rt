@@ -6,7 +6,7 @@ ghost use Rattle.luau_cli.specs.Answer.{Answer, Answers, AnswersFile, RunsScript
 ghost use Rattle.luau_cli.specs.Command.{RunFile};
 ghost use Rattle.luau_cli.specs.Delivery.{Delivers, change};
 ghost use Rattle.luau_cli.specs.Making.{answer_of};
-ghost use Rattle.syntax_tree.specs.declared.tree.Stat.{Stat};
+ghost use Rattle.syntax_tree.specs.declared.tree.Tree.{Tree};
 
 use crate::outcome::reply_to_script;
 use crate::reply::Reply;
@@ -47,9 +47,10 @@ pub fn top<F: Files, O: Sink, E: Sink>(
         (change (E.bytes report.old) (E.bytes report.new) (E.faults report.old) (E.faults report.new))
         result) }
 
-    // A script of the form in a file that is there runs, but for want of memory and where a read or a write fails.
-    ensures runs { IfSome (F.contents files.old) (λ told. (stats : List Stat)
-        → RunsScript told (map string_bytes words.entry.now) stats
+    // An accepted script all of which is built, in a file that is there, runs, but for want of memory and where a read or a
+    // write fails.
+    ensures runs { IfSome (F.contents files.old) (λ told. (tree : Tree)
+        → RunsScript told (map string_bytes words.entry.now) tree
         → (Rose (F.faults files.old) (F.faults files.new) → ⊥)
         → (Rose (O.faults out.old) (O.faults out.new) → ⊥)
         → (Rose (E.faults report.old) (E.faults report.new) → ⊥)

@@ -1,7 +1,7 @@
-use Rattle.std.proofs.Common.{ℕ, List, Option, ◌≡◌, ◌∙◌, Ok, Err, ◌++◌, codes, refl, ap, subst}
+use Rattle.std.proofs.Common.{◌≡◌, ◌∙◌, Ok, Err, ◌++◌, codes, ap, subst}
 use Rattle.outside_io.specs.Files.{ReadsAll}
 use Rattle.outside_io.specs.declared.reading.ReadErr.TheVariants.{Missing, ReadFault, TooLarge}
-use Rattle.luau_cli.specs.Answer.{Answer, refusal, size_limit, AnswersScript, AnswersFile}
+use Rattle.luau_cli.specs.Answer.{refusal, size_limit, AnswersScript, AnswersFile}
 use Rattle.luau_cli.proofs.Replying.{told_answers, by_cause, answers_missing, answers_fault, answers_large, answers_read}
 use Rattle.luau_cli.proofs.top.reply_for.Goals as goal
 

@@ -2,7 +2,6 @@ use Rattle.std.proofs.Common.{refl}
 use Rattle.luau_cli.specs.Making.{answer_of}
 use Rattle.luau_cli.proofs.Replying.{usage_written, answers_words, answers_other, runs_script}
 use Rattle.luau_cli.proofs.Deliveries.{ran_quiet, not_unread, refused_untouched}
-use Rattle.script_reader.proofs.Refused.{refused_outside}
 use Rattle.luau_cli.proofs.top.top.Goals as goal
 
 pub returns-in_default-clause-answer : goal.returns-in_default-clause-answer
@@ -17,7 +16,7 @@ returns-in-Ok-clause-answer g c =
 
 pub returns-in-Ok-clause-runs : goal.returns-in-Ok-clause-runs
 returns-in-Ok-clause-runs g c =
-    runs_script (g.F.Files.contents c.args.files.now) _ c.in-Some.command.file.now c.in-Some.command.turns _ _ (answer_of c.in-Ok.reply) _ _ c.deliver.result refused_outside c.in-Some.ensures c.in-Ok.ensures.told c.deliver.ensures
+    runs_script (g.F.Files.contents c.args.files.now) _ c.in-Some.command.file.now c.in-Some.command.turns _ _ (answer_of c.in-Ok.reply) _ _ c.deliver.result c.in-Some.ensures c.in-Ok.ensures.told c.deliver.ensures
 
 pub returns-in-Ok-clause-ended : goal.returns-in-Ok-clause-ended
 returns-in-Ok-clause-ended g c = λ ran.

@@ -1,4 +1,3 @@
-use Rattle.std.proofs.Common.{ℕ, List, Some, None}
 use Rattle.luau_cli.proofs.CommandWords.{or_bounded}
 use Rattle.luau_cli.specs.Command.{RunFile}
 use Rattle.luau_cli.proofs.words.read_command.Goals as goal

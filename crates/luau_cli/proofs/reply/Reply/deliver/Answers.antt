@@ -1,4 +1,4 @@
-use Rattle.std.proofs.Common.{◌≡◌, ◌<◌, ◌≤◌, ◌⊎◌, ⊎_elim, [], length, ap, ◌∙◌, sym, refl, rules, arith}
+use Rattle.std.proofs.Common.{⊎_elim, length, ap, ◌∙◌, sym, refl}
 use Rattle.std.proofs.lemmas.Bool.{false≢true}
 use Rattle.luau_cli.specs.Answer.{HasRun}
 use Rattle.luau_cli.specs.Delivery.{whole, no_output, no_report, refused}

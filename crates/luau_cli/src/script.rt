@@ -1,0 +1,63 @@
+//! From a text to the tree that is run, or to its refusal.
+
+ghost use Rattle.std.specs.Prelude.{◌≡◌, IfOk, Some};
+ghost use Rattle.luau_cli.specs.declared.refusal.Refusal.{Refusal};
+ghost use Rattle.luau_cli.specs.declared.script.Reading.TheVariants as reading;
+ghost use Rattle.luau_cli.specs.Refusals.{IsReadingOf, IsCompilable};
+
+use crate::refusal::{Refusal, broken_rule, lexical, syntactic};
+use byte_text::Interner;
+use emit_stat::first_unbuilt;
+use luau_lexer::lex;
+use luau_parser::parse;
+use resource::OutOfMemory;
+use scopes::resolve;
+use std::alloc::Global;
+use syntax_tree::Tree;
+
+/// What a text is found to be.
+#[derive(Drop)]
+pub enum Reading {
+    /// An accepted script all of which is built, with its tree.
+    Script(Tree),
+    Refused(Refusal),
+}
+
+/// Reads a whole text: its tokens, their tree, the rules of scopes and sizes, and which nodes are built.
+///
+/// The only error is want of memory.
+pub fn read_script(alloc: Global, source: &[u8]) -> Result<Reading, OutOfMemory>
+    ensures reading { IfOk result (IsReadingOf source.now) }
+    ensures compilable { IfOk result IsCompilable }
+{
+    let mut names = Interner::new(alloc);
+    let tokens = match lex(alloc, source, &mut names) {
+        Ok(tokens) => tokens,
+        Err(error) => return refused(lexical(error)),
+    };
+    let tree = match parse(alloc, tokens.as_slice()) {
+        Ok(tree) => tree,
+        Err(error) => return refused(syntactic(error)),
+    };
+    match resolve(alloc, &tree) {
+        Ok(_) => {}
+        Err(error) => return refused(broken_rule(error)),
+    }
+    match first_unbuilt(alloc, &tree)? {
+        Some(at) => Ok(Reading::Refused(Refusal {
+            cause: "NotBuilt 60",
+            at,
+        })),
+        None => Ok(Reading::Script(tree)),
+    }
+}
+
+// A refusal, unless memory ran out.
+fn refused(refusal: Option<Refusal>) -> Result<Reading, OutOfMemory>
+    ensures { IfOk result (λ r. (why : Refusal) × (refusal ≡ Some why) × (r ≡ reading.Refused why)) }
+{
+    match refusal {
+        Some(refusal) => Ok(Reading::Refused(refusal)),
+        None => Err(OutOfMemory),
+    }
+}
