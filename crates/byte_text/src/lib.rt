@@ -8,6 +8,3 @@ mod interner;
 pub use bytes::Bytes;
 pub use fixed::StrId;
 pub use interner::Interner;
-
-#[cfg(test)]
-mod tests;

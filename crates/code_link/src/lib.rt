@@ -6,6 +6,3 @@ mod linking;
 
 pub use item::{Item, Labelled, Linked};
 pub use linking::link;
-
-#[cfg(test)]
-mod tests;

@@ -12,6 +12,3 @@ mod values;
 pub use laws::has_report;
 pub use script::compile;
 pub use unbuilt::first_unbuilt;
-
-#[cfg(test)]
-mod tests;

@@ -65,6 +65,3 @@ fn read_tokens(alloc: Global, source: &[u8], names: &mut Interner) -> Result<Vec
         }
     }
 }
-
-#[cfg(test)]
-mod tests;

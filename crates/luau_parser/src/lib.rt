@@ -24,6 +24,3 @@ mod words;
 pub use error::ParseErr;
 pub use laws::{example_refusals, example_trees, one_tree};
 pub use scripts::parse;
-
-#[cfg(test)]
-mod tests;

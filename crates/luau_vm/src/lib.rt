@@ -6,6 +6,3 @@ mod operations;
 mod running;
 
 pub use running::{Ran, run};
-
-#[cfg(test)]
-mod tests;

@@ -26,6 +26,3 @@ pub fn number(alloc: Global, main: FuncBody) -> Result<Tree, OutOfMemory>
         nodes: numbers.count(),
     })
 }
-
-#[cfg(test)]
-mod tests;

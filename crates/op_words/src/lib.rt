@@ -11,6 +11,3 @@ mod insn;
 pub use decoding::decode;
 pub use encoding::{Words, encode};
 pub use insn::Insn;
-
-#[cfg(test)]
-mod tests;

@@ -18,6 +18,3 @@ pub use reading::{Files, ReadAtErr, ReadErr, read_all};
 pub use sink_memory::MemSink;
 pub use sink_os::OsSink;
 pub use writing::{Failed, Sink, WriteErr, put_all};
-
-#[cfg(test)]
-mod tests;

@@ -18,6 +18,3 @@ pub use laws::{
 pub use levels::{Level, Rank, next_level};
 pub use operators::{compound_at, operator_at, unary_at};
 pub use words::{Word, kind_at, stands};
-
-#[cfg(test)]
-mod tests;

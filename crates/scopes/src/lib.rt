@@ -37,6 +37,3 @@ pub fn resolve(alloc: Global, tree: &Tree) -> Result<Bindings, ScopeErr>
         None => Ok(bindings),
     }
 }
-
-#[cfg(test)]
-mod tests;

@@ -10,6 +10,3 @@ mod tokens;
 pub use fault::Fault;
 pub use parts::type_end;
 pub use skipping::{TypeErr, one_type, skip_type};
-
-#[cfg(test)]
-mod tests;

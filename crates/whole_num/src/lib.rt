@@ -11,6 +11,3 @@ pub use arithmetic::Stop;
 pub use literal::{Read, read_literal};
 pub use text::print_into;
 pub use whole::Whole;
-
-#[cfg(test)]
-mod tests;

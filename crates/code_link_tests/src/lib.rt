@@ -1,0 +1,5 @@
+//! The tests of `code_link`.
+#![tactic(auto)]
+
+#[cfg(test)]
+mod tests;

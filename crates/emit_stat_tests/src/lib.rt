@@ -1,0 +1,5 @@
+//! The tests of `emit_stat`.
+#![tactic(auto)]
+
+#[cfg(test)]
+mod tests;

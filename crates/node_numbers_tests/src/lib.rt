@@ -1,0 +1,5 @@
+//! The tests of `node_numbers`.
+#![tactic(auto)]
+
+#[cfg(test)]
+mod tests;

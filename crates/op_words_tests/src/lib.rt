@@ -1,0 +1,5 @@
+//! The tests of `op_words`.
+#![tactic(auto)]
+
+#[cfg(test)]
+mod tests;

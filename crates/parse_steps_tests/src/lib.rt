@@ -1,0 +1,5 @@
+//! The tests of `parse_steps`.
+#![tactic(auto)]
+
+#[cfg(test)]
+mod tests;

@@ -1,0 +1,5 @@
+//! The tests of `scopes`.
+#![tactic(auto)]
+
+#[cfg(test)]
+mod tests;

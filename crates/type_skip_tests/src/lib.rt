@@ -1,0 +1,5 @@
+//! The tests of `type_skip`.
+#![tactic(auto)]
+
+#[cfg(test)]
+mod tests;

@@ -1,0 +1,5 @@
+//! The tests of `whole_num`.
+#![tactic(auto)]
+
+#[cfg(test)]
+mod tests;
