@@ -3,9 +3,9 @@ use std::test::Fail;
 
 #[test]
 fn copies(rt: HostRuntime) -> Result<(), Fail> {
-    for text in [b"".as_slice(), b"a\0\xff"] {
+    for text in &[b"".as_slice(), b"a\0\xff"] {
         let bytes = Bytes::from_slice(rt.alloc(), text)?;
-        assert_eq!(rt; bytes.as_slice(), text);
+        assert_eq!(rt; bytes.as_slice(), *text);
     }
     Ok(())
 }
@@ -13,7 +13,7 @@ fn copies(rt: HostRuntime) -> Result<(), Fail> {
 #[test]
 fn fixed_texts(rt: HostRuntime) -> Result<(), Fail> {
     let mut names = Interner::new(rt.alloc());
-    for (id, text) in [
+    for (id, text) in &[
         (StrId::TYPEOF, b"typeof".as_slice()),
         (StrId::SELF, b"self"),
         (StrId::CONTINUE, b"continue"),
@@ -24,9 +24,9 @@ fn fixed_texts(rt: HostRuntime) -> Result<(), Fail> {
         (StrId::REQUIRE, b"require"),
         (StrId::PRINT, b"print"),
     ] {
-        assert_eq!(rt; names.intern(text)?, id);
+        assert_eq!(rt; names.intern(text)?, *id);
         assert!(rt; id.0 < names.count());
-        assert_eq!(rt; names.bytes(id), text);
+        assert_eq!(rt; names.bytes(*id), *text);
     }
     assert_eq!(rt; names.count(), 9);
     Ok(())
@@ -35,7 +35,7 @@ fn fixed_texts(rt: HostRuntime) -> Result<(), Fail> {
 #[test]
 fn numbers(rt: HostRuntime) -> Result<(), Fail> {
     let mut names = Interner::new(rt.alloc());
-    for (text, number) in [
+    for (text, number) in &[
         (b"a".as_slice(), 9),
         (b"", 10),
         (b"a\0", 11),
@@ -45,9 +45,9 @@ fn numbers(rt: HostRuntime) -> Result<(), Fail> {
         (b"", 10),
     ] {
         let id = names.intern(text)?;
-        assert_eq!(rt; id, StrId(number), "at {text:?}");
+        assert_eq!(rt; id, StrId(*number), "at {text:?}");
         assert!(rt; id.0 < names.count());
-        assert_eq!(rt; names.bytes(id), text);
+        assert_eq!(rt; names.bytes(id), *text);
     }
     Ok(())
 }

@@ -94,7 +94,7 @@ fn scripts_print_and_end(rt: HostRuntime) -> Result<(), Fail> {
             b"0\n9007199136250225\n",
         ),
     ];
-    for (script, output) in rows {
+    for (script, output) in &rows {
         let wanted = Wanted {
             status: 0,
             output,
@@ -145,7 +145,7 @@ fn branches_and_loops_run(rt: HostRuntime) -> Result<(), Fail> {
             b"2\n",
         ),
     ];
-    for (script, output) in rows {
+    for (script, output) in &rows {
         let wanted = Wanted {
             status: 0,
             output,
@@ -172,7 +172,7 @@ fn turns_are_bounded(rt: HostRuntime) -> Result<(), Fail> {
         ("1000", forever, 7, b"1\n", spent),
         ("0", b"print(1)", 0, b"1\n", ENDED),
     ];
-    for (turns, script, status, output, report) in rows {
+    for (turns, script, status, output, report) in &rows {
         let given = Given {
             words: &["run", "--turns", turns, "a"],
             script,
@@ -181,7 +181,7 @@ fn turns_are_bounded(rt: HostRuntime) -> Result<(), Fail> {
             failing_reports: &[],
         };
         let wanted = Wanted {
-            status,
+            status: *status,
             output,
             report,
         };
@@ -211,7 +211,7 @@ fn scripts_stop_out_of_range(rt: HostRuntime) -> Result<(), Fail> {
             b"",
         ),
     ];
-    for (script, output) in rows {
+    for (script, output) in &rows {
         let wanted = Wanted {
             status: 1,
             output,
@@ -273,8 +273,8 @@ fn each_refusal_has_its_place(rt: HostRuntime) -> Result<(), Fail> {
         (b"break print(1.5)", "NotWholeLiteral 6", 12),
         (b"local a break", "LoopWordOutside 20", 8),
     ];
-    for (script, cause, at) in rows {
-        expect_refused(&rt, script, cause, at)?;
+    for (script, cause, at) in &rows {
+        expect_refused(&rt, script, cause, *at)?;
     }
     Ok(())
 }
@@ -432,7 +432,7 @@ fn words_and_files_are_refused(rt: HostRuntime) -> Result<(), Fail> {
         (&["run", "a"], spaces.as_slice(), 0, ENDED),
         (&["run", "a"], more.as_slice(), 10, b"too large: a\n"),
     ];
-    for (words, script, status, report) in rows {
+    for (words, script, status, report) in &rows {
         let given = Given {
             words,
             script,
@@ -441,7 +441,7 @@ fn words_and_files_are_refused(rt: HostRuntime) -> Result<(), Fail> {
             failing_reports: &[],
         };
         let wanted = Wanted {
-            status,
+            status: *status,
             output: b"",
             report,
         };
@@ -465,7 +465,7 @@ fn faults_are_reported(rt: HostRuntime) -> Result<(), Fail> {
         (bad, &[], &[1], &[], 3, b"", refused),
         (bad, &[], &[], &[1], 3, b"", b""),
     ];
-    for (script, failing_reads, failing_outputs, failing_reports, status, output, report) in rows {
+    for (script, failing_reads, failing_outputs, failing_reports, status, output, report) in &rows {
         let given = Given {
             words: &["run", "a"],
             script,
@@ -474,7 +474,7 @@ fn faults_are_reported(rt: HostRuntime) -> Result<(), Fail> {
             failing_reports,
         };
         let wanted = Wanted {
-            status,
+            status: *status,
             output,
             report,
         };

@@ -132,7 +132,7 @@ fn show(
 
 #[test]
 fn tokens(rt: HostRuntime) -> Result<(), Fail> {
-    for (source, wanted) in [
+    for (source, wanted) in &[
         (b"".as_slice(), b"".as_slice()),
         (b" \t\r\x0b\x0c\n", b""),
         (
@@ -231,7 +231,7 @@ fn tokens(rt: HostRuntime) -> Result<(), Fail> {
                 for token in tokens.as_slice() {
                     show(rt.alloc(), *token, &names, &mut text)?;
                 }
-                assert_eq!(rt; text.as_slice(), wanted, "at {source:?}");
+                assert_eq!(rt; text.as_slice(), *wanted, "at {source:?}");
             }
             Err(e) => assert!(rt; false, "{e:?} at {source:?}"),
         }
@@ -241,7 +241,7 @@ fn tokens(rt: HostRuntime) -> Result<(), Fail> {
 
 #[test]
 fn faults(rt: HostRuntime) -> Result<(), Fail> {
-    for (source, wanted) in [
+    for (source, wanted) in &[
         (b"a ! b".as_slice(), LexErr::BadByte { at: 2 }),
         (b"~ =", LexErr::BadByte { at: 0 }),
         (b"\x80", LexErr::BadByte { at: 0 }),
@@ -276,7 +276,7 @@ fn faults(rt: HostRuntime) -> Result<(), Fail> {
         let mut names = Interner::new(rt.alloc());
         match lex(rt.alloc(), source, &mut names) {
             Ok(_) => assert!(rt; false, "tokens at {source:?}"),
-            Err(e) => assert_eq!(rt; e, wanted, "at {source:?}"),
+            Err(e) => assert_eq!(rt; e, *wanted, "at {source:?}"),
         }
     }
     Ok(())

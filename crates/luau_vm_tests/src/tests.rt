@@ -80,16 +80,20 @@ fn counts_its_turns(rt: HostRuntime) -> Result<(), Fail> {
         0xFFF6_0017,
         0x0001_0015,
     ];
-    for (turns, output, ended) in [
+    for (turns, output, ended) in &[
         (0, "0\n", false),
         (1, "0\n1\n", false),
         (2, "0\n1\n", true),
         (3, "0\n1\n", true),
     ] {
-        let ran = ran(rt.alloc(), &words, 0, turns)?;
+        let ran = ran(rt.alloc(), &words, 0, *turns)?;
         assert_eq!(rt; ran.output.as_slice(), output.as_bytes(), "{turns} turns");
-        assert_eq!(rt; matches!(ran.end, End::Ended), ended, "{turns} turns");
-        assert_eq!(rt; matches!(ran.end, End::Unfinished), !ended, "{turns} turns");
+        assert_eq!(rt; matches!(ran.end, End::Ended), *ended, "{turns} turns");
+        assert_eq!(rt;
+            matches!(ran.end, End::Unfinished),
+            !*ended,
+            "{turns} turns"
+        );
     }
     Ok(())
 }
@@ -97,7 +101,7 @@ fn counts_its_turns(rt: HostRuntime) -> Result<(), Fail> {
 // Each comparison of two numbers that chooses a return of nothing, or to be stuck.
 #[test]
 fn compares(rt: HostRuntime) -> Result<(), Fail> {
-    for (opcode, less, equal, greater) in [
+    for (opcode, less, equal, greater) in &[
         (0x1A, false, true, false),
         (0x1B, true, true, false),
         (0x1C, true, false, false),
@@ -105,21 +109,21 @@ fn compares(rt: HostRuntime) -> Result<(), Fail> {
         (0x1E, false, false, true),
         (0x1F, false, true, true),
     ] {
-        for (left, jumps) in [
-            (0x0001_0003, less),
-            (0x0002_0003, equal),
-            (0x0003_0003, greater),
+        for (left, jumps) in &[
+            (0x0001_0003, *less),
+            (0x0002_0003, *equal),
+            (0x0003_0003, *greater),
         ] {
             let words = [
-                left,
+                *left,
                 0x0002_0103,
-                0x0002_0000 | opcode,
+                0x0002_0000 | *opcode,
                 1,
                 0xFFFF_FFFF,
                 0x0001_0015,
             ];
             let ran = ran(rt.alloc(), &words, 0, 0)?;
-            assert_eq!(rt; matches!(ran.end, End::Ended), jumps, "{opcode} at {left}");
+            assert_eq!(rt; matches!(ran.end, End::Ended), *jumps, "{opcode} at {left}");
         }
     }
     Ok(())
@@ -142,7 +146,7 @@ fn is_stuck(rt: HostRuntime) -> Result<(), Fail> {
         // a jump past the end
         &[0x7FFF_0016, 0x0001_0015],
     ];
-    for words in codes {
+    for words in &codes {
         let ran = ran(rt.alloc(), words, 0, 0)?;
         assert!(rt; ran.output.is_empty());
         assert!(rt; matches!(ran.end, End::Stuck));

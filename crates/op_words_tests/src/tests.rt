@@ -146,8 +146,8 @@ fn no_instruction(rt: HostRuntime) {
         0x0001_003F,
         0x0100_003F,
     ];
-    for word in words {
-        assert_eq!(rt; decode(&[word, 0], 0), None, "at {word:#x}");
+    for word in &words {
+        assert_eq!(rt; decode(&[*word, 0], 0), None, "at {word:#x}");
     }
     // A second word that is missing.
     for word in [0x0000_0806, 0x0002_011A, 0x0002_011F] {
