@@ -119,9 +119,8 @@ static TREES: [(&str, &str); 52] = [
 ];
 
 // Texts that are refused: by 10 Unexpected, 11 TooDeep or 12 AmbiguousCall, and where.
-static REFUSALS: [(&str, u8, usize); 27] = [
+static REFUSALS: [(&str, u8, usize); 25] = [
     ("a", 10, 1),
-    ("local a = ", 10, 9),
     ("a = 1 1", 10, 6),
     ("a() = 1", 10, 4),
     ("(a) = 1", 10, 4),
@@ -145,7 +144,6 @@ static REFUSALS: [(&str, u8, usize); 27] = [
     ("a = @ b", 10, 7),
     ("a = b\n(c)()", 12, 6),
     ("a\n()", 12, 2),
-    ("local f = print\n(f)(1)", 12, 16),
     ("a = b:c\n(d)", 12, 8),
 ];
 
