@@ -94,19 +94,21 @@ fn reaches_the_system(rt: HostRuntime) -> Result<(), Fail> {
     Ok(())
 }
 
-// A file of the system that takes several reads.
+// The bytes of a file that takes several reads.
+const LONG: usize = 200_000;
+
 #[test]
 fn reads_a_long_file_of_the_system(rt: HostRuntime) -> Result<(), Fail> {
     let alloc = rt.alloc();
     let name = "a-long-file-of-the-tests.tmp";
     let mut long = Vec::new(alloc);
-    for i in 0..200_000u32 {
+    for i in 0..LONG {
         long.push((i % 251) as u8)?;
     }
     fs::write(&rt, name, long.as_slice())?;
     let mut files = OsFiles::new(rt.clone()?);
-    let got = read_all(alloc, &mut files, name, long.len());
-    let short = read_all(alloc, &mut files, name, long.len() - 1);
+    let got = read_all(alloc, &mut files, name, LONG);
+    let short = read_all(alloc, &mut files, name, LONG - 1);
     fs::remove_file(&rt, name)?;
     assert_eq!(rt; got?.as_slice(), long.as_slice());
     assert_eq!(rt; short.err(), Some(ReadErr::TooLarge));
