@@ -52,7 +52,8 @@ impl Insn {
         }
     }
 
-    fn row(&self) -> Row
+    /// The instruction's row of the table.
+    pub fn row(&self) -> Row
         ensures { result ≡ row self.now }
     {
         match *self {
