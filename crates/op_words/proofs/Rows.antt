@@ -1,8 +1,9 @@
 -- Each row and its instruction give each other back.
-use Rattle.std.proofs.Common.{◌≡◌, refl, sym, ap, ◌∙◌, subst, ℕ, ◌^◌, ◌<◌, ℤ, Bool, true, false, ◌&&◌, Option, Some, None, arith, nat_eq, if◌then◌else◌}
+use Rattle.std.proofs.Common.{◌≡◌, refl, sym, ap, ◌∙◌, subst, ℕ, ◌^◌, ◌<◌, ℤ, Bool, true, false, ◌&&◌, List, [], ◌∷◌, Option, Some, None, arith, nat_eq, if◌then◌else◌}
+use Rattle.std.specs.List.{AllByRecursion}
 use Rattle.std.specs.Option.{option_and_then}
 use Rattle.std.specs.Ordering.{int_eq}
-use Rattle.std.proofs.lemmas.Bool.{eqb-true, eq-eqb, and_parts, and_from}
+use Rattle.std.proofs.lemmas.Bool.{eqb-true, eq-eqb, ne_eqb, and_parts, and_from}
 use Rattle.std.proofs.lemmas.Bool.Decides.{Decides-int_eq}
 use Rattle.op_words.specs.declared.insn.Insn.{Insn}
 use Rattle.op_words.specs.declared.insn.Insn.TheVariants.{LoadN}
@@ -11,7 +12,7 @@ use Rattle.op_words.specs.declared.encoding.Fields.TheVariants.{Abc, Ad}
 use Rattle.op_words.specs.declared.encoding.Row.{Row}
 use Rattle.op_words.specs.declared.decoding.Parts.{Parts}
 use Rattle.op_words.specs.Encoding.{row}
-use Rattle.op_words.specs.Decoding.{named, has_fields, is_followed, has_parts, insn_of}
+use Rattle.op_words.specs.Decoding.{looked_up, named, has_fields, is_followed, has_parts, insn_of}
 
 -- a row's second word, or what follows where it has none
 abbrev pub following : (aux next : Option ℕ) → Option ℕ
@@ -38,6 +39,12 @@ named-row insn p = refl
 pub opcode_fits : (insn : Insn) → (row insn).opcode < 2 ^ 8
 opcode_fits (LoadN to value) = omega arith
 opcode_fits insn = omega arith
+
+-- no row has the opcode
+pub looked_up-none : (rows : List (ℕ × (Parts → Insn))) (p : Parts) → AllByRecursion (λ r. p.opcode ≡ r.0 → ⊥) rows → looked_up rows p ≡ None
+looked_up-none [] p h = refl
+looked_up-none (r ∷ rs) p h =
+    ap (λ t. if t then Some (r.1 p) else looked_up rs p) (ne_eqb p.opcode r.0 h.0) ∙ looked_up-none rs p h.1
 
 -- ---- the test of the parts
 

@@ -153,8 +153,8 @@ impl Fields {
         ensures { result ≡ has_fields self.now parts.now }
     {
         match *self {
-            Fields::Abc { a, b, c } => a == parts.a && b == parts.b && c == parts.c,
-            Fields::Ad { a, d } => a == parts.a && d == parts.d,
+            Fields::Abc(a, b, c) => a == parts.a && b == parts.b && c == parts.c,
+            Fields::Ad(a, d) => a == parts.a && d == parts.d,
         }
     }
 }

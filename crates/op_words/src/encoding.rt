@@ -1,9 +1,13 @@
 //! Instructions packed into words.
 
 ghost use Rattle.std.specs.Prelude.{◌≡◌, length};
+ghost use Rattle.std.specs.Cmp.{on_equiv, partial_equiv_from_equiv};
+ghost use Rattle.std.specs.Ordering.{on};
 ghost use Rattle.op_words.specs.Encoding.{encoded, row, word_of, words_of};
 
 use crate::insn::Insn;
+use Fields::{Abc, Ad};
+use std::fmt;
 
 /// The one or two words of an instruction.
 #[derive(Clone, Copy)]
@@ -14,16 +18,16 @@ pub struct Words {
 }
 
 /// What an instruction's first word holds behind the opcode. A field that an instruction does not name is 0.
-#[derive(Clone, Copy)]
+#[derive(Clone, Copy, PartialEq, Eq, Debug)]
 pub enum Fields {
-    /// Three fields of 8 bits.
-    Abc { a: u8, b: u8, c: u8 },
-    /// A field of 8 bits, and a signed one of 16.
-    Ad { a: u8, d: i16 },
+    /// A, B and C, of 8 bits each.
+    Abc(u8, u8, u8),
+    /// A of 8 bits, and the signed D of 16.
+    Ad(u8, i16),
 }
 
 /// An instruction as it stands in the table.
-#[derive(Clone, Copy)]
+#[derive(Clone, Copy, PartialEq, Eq, Debug)]
 pub struct Row {
     pub opcode: u8,
     pub fields: Fields,
@@ -56,72 +60,81 @@ impl Insn {
     pub fn row(&self) -> Row
         ensures { result ≡ row self.now }
     {
+        let (opcode, fields, aux) = self.in_table();
+        Row {
+            opcode,
+            fields,
+            aux,
+        }
+    }
+
+    fn in_table(&self) -> (u8, Fields, Option<u32>)
+        ensures { let r = row self.now in result ≡ (r.opcode, r.fields, r.aux) }
+    {
         match *self {
-            Insn::LoadN { to, value } => Row::ad(3, to, value),
-            Insn::LoadK { to, constant } => Row::ad(4, to, constant),
-            Insn::Move { to, from } => Row::abc(5, to, from, 0),
-            Insn::GetGlobal { to, constant } => Row::abc(6, to, 0, 0).with_aux(constant),
+            Insn::LoadN { to, value } => (3, Ad(to, value), None),
+            Insn::LoadK { to, constant } => (4, Ad(to, constant), None),
+            Insn::Move { to, from } => (5, Abc(to, from, 0), None),
+            Insn::GetGlobal { to, constant } => (6, Abc(to, 0, 0), Some(constant)),
             Insn::Call {
                 base,
                 arguments,
                 results,
-            } => Row::abc(20, base, arguments, results),
-            Insn::Return { base, values } => Row::abc(21, base, values, 0),
-            Insn::Jump { by } => Row::ad(22, 0, by),
-            Insn::JumpBack { by } => Row::ad(23, 0, by),
-            Insn::JumpIfEq { left, by, right } => Row::ad(26, left, by).with_aux(right),
-            Insn::JumpIfLe { left, by, right } => Row::ad(27, left, by).with_aux(right),
-            Insn::JumpIfLt { left, by, right } => Row::ad(28, left, by).with_aux(right),
-            Insn::JumpIfNotEq { left, by, right } => Row::ad(29, left, by).with_aux(right),
-            Insn::JumpIfNotLe { left, by, right } => Row::ad(30, left, by).with_aux(right),
-            Insn::JumpIfNotLt { left, by, right } => Row::ad(31, left, by).with_aux(right),
-            Insn::Add { to, left, right } => Row::abc(32, to, left, right),
-            Insn::Sub { to, left, right } => Row::abc(33, to, left, right),
-            Insn::Mul { to, left, right } => Row::abc(34, to, left, right),
-            Insn::PrepVarargs { parameters } => Row::abc(63, parameters, 0, 0),
+            } => (20, Abc(base, arguments, results), None),
+            Insn::Return { base, values } => (21, Abc(base, values, 0), None),
+            Insn::Jump { by } => (22, Ad(0, by), None),
+            Insn::JumpBack { by } => (23, Ad(0, by), None),
+            Insn::JumpIfEq { left, by, right } => (26, Ad(left, by), Some(right)),
+            Insn::JumpIfLe { left, by, right } => (27, Ad(left, by), Some(right)),
+            Insn::JumpIfLt { left, by, right } => (28, Ad(left, by), Some(right)),
+            Insn::JumpIfNotEq { left, by, right } => (29, Ad(left, by), Some(right)),
+            Insn::JumpIfNotLe { left, by, right } => (30, Ad(left, by), Some(right)),
+            Insn::JumpIfNotLt { left, by, right } => (31, Ad(left, by), Some(right)),
+            Insn::Add { to, left, right } => (32, Abc(to, left, right), None),
+            Insn::Sub { to, left, right } => (33, Abc(to, left, right), None),
+            Insn::Mul { to, left, right } => (34, Abc(to, left, right), None),
+            Insn::PrepVarargs { parameters } => (63, Abc(parameters, 0, 0), None),
         }
     }
 }
 
 impl Row {
-    fn abc(opcode: u8, a: u8, b: u8, c: u8) -> Row
-        ensures { result ≡ record { opcode = opcode; fields = Fields.Abc a b c; aux = None } }
-    {
-        Row {
-            opcode,
-            fields: Fields::Abc { a, b, c },
-            aux: None,
-        }
-    }
-
-    fn ad(opcode: u8, a: u8, d: i16) -> Row
-        ensures { result ≡ record { opcode = opcode; fields = Fields.Ad a d; aux = None } }
-    {
-        Row {
-            opcode,
-            fields: Fields::Ad { a, d },
-            aux: None,
-        }
-    }
-
-    fn with_aux(self, aux: u32) -> Row
-        ensures { result ≡ record self { aux = Some aux } }
-    {
-        Row {
-            aux: Some(aux),
-            ..self
-        }
-    }
-
     fn pack(&self) -> u32
         ensures { result ≡ word_of self.now }
     {
         match self.fields {
-            Fields::Abc { a, b, c } => u32::from_le_bytes([self.opcode, a, b, c]),
-            Fields::Ad { a, d } => {
+            Abc(a, b, c) => u32::from_le_bytes([self.opcode, a, b, c]),
+            Ad(a, d) => {
                 let [low, high] = d.to_le_bytes();
                 u32::from_le_bytes([self.opcode, a, low, high])
             }
         }
+    }
+}
+
+// An instruction is compared and shown by its row: a derive would do both anew for each variant.
+
+impl PartialEq for Insn {
+    ghost use Rattle.op_words.specs.contracts.encoding.RowPartialEq.TheImpl as rows;
+    ghost use Rattle.op_words.specs.contracts.encoding.RowEq.TheImpl.Laws.{laws-law};
+
+    ghost eq = { on row (rows.ghosts).eq };
+
+    ghost laws = { partial_equiv_from_equiv (on_equiv row laws-law) };
+
+    fn eq(&self, other: &Insn) -> bool {
+        self.row() == other.row()
+    }
+}
+
+impl Eq for Insn {
+    ghost use Rattle.op_words.specs.contracts.encoding.RowEq.TheImpl.Laws.{laws-law};
+
+    ghost laws = { on_equiv row laws-law };
+}
+
+impl fmt::Debug for Insn {
+    fn fmt<W: fmt::Write>(&self, f: &mut fmt::Formatter<W>) -> fmt::Result {
+        self.row().fmt(f)
     }
 }
