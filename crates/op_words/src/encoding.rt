@@ -60,40 +60,105 @@ impl Insn {
     pub fn row(&self) -> Row
         ensures { result ≡ row self.now }
     {
-        let (opcode, fields, aux) = self.in_table();
+        let (fields, aux) = self.operands();
         Row {
-            opcode,
+            opcode: self.opcode(),
             fields,
             aux,
         }
     }
 
-    fn in_table(&self) -> (u8, Fields, Option<u32>)
-        ensures { let r = row self.now in result ≡ (r.opcode, r.fields, r.aux) }
+    fn opcode(&self) -> u8
+        ensures { result ≡ (row self.now).opcode }
     {
         match *self {
-            Insn::LoadN { to, value } => (3, Ad(to, value), None),
-            Insn::LoadK { to, constant } => (4, Ad(to, constant), None),
-            Insn::Move { to, from } => (5, Abc(to, from, 0), None),
-            Insn::GetGlobal { to, constant } => (6, Abc(to, 0, 0), Some(constant)),
+            Insn::LoadN { .. } => 3,
+            Insn::LoadK { .. } => 4,
+            Insn::Move { .. } => 5,
+            Insn::GetGlobal { .. } => 6,
+            Insn::Call { .. } => 20,
+            Insn::Return { .. } => 21,
+            Insn::Jump { .. } => 22,
+            Insn::JumpBack { .. } => 23,
+            Insn::JumpIfEq { .. } => 26,
+            Insn::JumpIfLe { .. } => 27,
+            Insn::JumpIfLt { .. } => 28,
+            Insn::JumpIfNotEq { .. } => 29,
+            Insn::JumpIfNotLe { .. } => 30,
+            Insn::JumpIfNotLt { .. } => 31,
+            Insn::Add { .. } => 32,
+            Insn::Sub { .. } => 33,
+            Insn::Mul { .. } => 34,
+            Insn::PrepVarargs { .. } => 63,
+        }
+    }
+
+    /// What stands behind the opcode, in one arm for each form: the fields that its instructions name, and the second word.
+    fn operands(&self) -> (Fields, Option<u32>)
+        ensures { let r = row self.now in result ≡ (r.fields, r.aux) }
+    {
+        match *self {
+            Insn::PrepVarargs { parameters: a } => (Abc(a, 0, 0), None),
+            Insn::Move { to: a, from: b } | Insn::Return { base: a, values: b } => (
+                Abc(a, b, 0),
+                None,
+            ),
             Insn::Call {
-                base,
-                arguments,
-                results,
-            } => (20, Abc(base, arguments, results), None),
-            Insn::Return { base, values } => (21, Abc(base, values, 0), None),
-            Insn::Jump { by } => (22, Ad(0, by), None),
-            Insn::JumpBack { by } => (23, Ad(0, by), None),
-            Insn::JumpIfEq { left, by, right } => (26, Ad(left, by), Some(right)),
-            Insn::JumpIfLe { left, by, right } => (27, Ad(left, by), Some(right)),
-            Insn::JumpIfLt { left, by, right } => (28, Ad(left, by), Some(right)),
-            Insn::JumpIfNotEq { left, by, right } => (29, Ad(left, by), Some(right)),
-            Insn::JumpIfNotLe { left, by, right } => (30, Ad(left, by), Some(right)),
-            Insn::JumpIfNotLt { left, by, right } => (31, Ad(left, by), Some(right)),
-            Insn::Add { to, left, right } => (32, Abc(to, left, right), None),
-            Insn::Sub { to, left, right } => (33, Abc(to, left, right), None),
-            Insn::Mul { to, left, right } => (34, Abc(to, left, right), None),
-            Insn::PrepVarargs { parameters } => (63, Abc(parameters, 0, 0), None),
+                base: a,
+                arguments: b,
+                results: c,
+            }
+            | Insn::Add {
+                to: a,
+                left: b,
+                right: c,
+            }
+            | Insn::Sub {
+                to: a,
+                left: b,
+                right: c,
+            }
+            | Insn::Mul {
+                to: a,
+                left: b,
+                right: c,
+            } => (Abc(a, b, c), None),
+            Insn::Jump { by: d } | Insn::JumpBack { by: d } => (Ad(0, d), None),
+            Insn::LoadN { to: a, value: d } | Insn::LoadK { to: a, constant: d } => (
+                Ad(a, d),
+                None,
+            ),
+            Insn::GetGlobal { to: a, constant: x } => (Abc(a, 0, 0), Some(x)),
+            Insn::JumpIfEq {
+                left: a,
+                by: d,
+                right: x,
+            }
+            | Insn::JumpIfLe {
+                left: a,
+                by: d,
+                right: x,
+            }
+            | Insn::JumpIfLt {
+                left: a,
+                by: d,
+                right: x,
+            }
+            | Insn::JumpIfNotEq {
+                left: a,
+                by: d,
+                right: x,
+            }
+            | Insn::JumpIfNotLe {
+                left: a,
+                by: d,
+                right: x,
+            }
+            | Insn::JumpIfNotLt {
+                left: a,
+                by: d,
+                right: x,
+            } => (Ad(a, d), Some(x)),
         }
     }
 }
