@@ -177,7 +177,8 @@ impl Row {
     }
 }
 
-// An instruction is compared and shown by its row: a derive would do both anew for each variant.
+// An instruction is compared and shown by its row. Two instructions with one row are the same, since each has its own
+// opcode, and a derive would take both apart variant by variant.
 
 impl PartialEq for Insn {
     ghost use Rattle.op_words.specs.contracts.encoding.RowPartialEq.TheImpl as rows;

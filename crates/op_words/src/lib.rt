@@ -1,9 +1,9 @@
 //! The machine's instructions, and the words that they are packed into.
 //!
 //! Each instruction has a line in `row` of `specs/Encoding.antt`, which says what it is packed of, and one in `table` of
-//! `specs/Decoding.antt`, which says by its opcode how it is made of a word. The code has the same two, in
-//! `Insn::in_table` and `Parts::named`. Everything else is said and proved once, for all instructions: an instruction
-//! stands where its own row has the word's parts.
+//! `specs/Decoding.antt`, which says by its opcode how it is made of a word. In the code the first is `Insn::opcode` and
+//! its form's arm of `Insn::operands`, and the second is `Parts::named`. Everything else is said and proved once, for all
+//! instructions: an instruction stands where its own row has the word's parts.
 #![tactic(auto)]
 
 mod decoding;
