@@ -57,7 +57,7 @@ impl Insn {
     }
 
     /// The instruction's row of the table.
-    pub fn row(&self) -> Row
+    pub(crate) fn row(&self) -> Row
         ensures { result ≡ row self.now }
     {
         let (fields, aux) = self.operands();
