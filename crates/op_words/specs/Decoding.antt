@@ -1,11 +1,15 @@
 -- The instruction that a word stands for, and the instruction at a place.
-use Rattle.std.specs.Prelude.{◌≡◌, ◌==◌, ℕ, ◌+◌, ◌^◌, ◌<◌, ◌≤◌, ℤ, ◌&&◌, List, [], ◌∷◌, ◌++◌, length, drop, Option, Some, None, option_map, slice_get, ◌/◌, ◌%◌, if◌then◌else◌}
+use Rattle.std.specs.Prelude.{◌≡◌, ◌==◌, Bool, true, false, ℕ, ◌+◌, ◌^◌, ◌<◌, ◌≤◌, ℤ, ◌&&◌, List, [], ◌∷◌, ◌++◌, length, drop, Option, Some, None, option_map, unwrap_or, slice_get, ◌/◌, ◌%◌, if◌then◌else◌}
 use Rattle.std.specs.Option.{option_and_then}
 use Rattle.std.specs.Int.{w16, cast_signed, from_le_bytes}
+use Rattle.std.specs.Ordering.{int_eq}
 use Rattle.op_words.specs.declared.insn.Insn.{Insn}
 use Rattle.op_words.specs.declared.insn.Insn.TheVariants.{LoadN, LoadK, Move, GetGlobal, Call, Return, Jump, JumpBack, JumpIfEq, JumpIfLe, JumpIfLt, JumpIfNotEq, JumpIfNotLe, JumpIfNotLt, Add, Sub, Mul, PrepVarargs}
+use Rattle.op_words.specs.declared.encoding.Fields.{Fields}
+use Rattle.op_words.specs.declared.encoding.Fields.TheVariants.{Abc, Ad}
+use Rattle.op_words.specs.declared.encoding.Row.{Row}
 use Rattle.op_words.specs.declared.decoding.Parts.{Parts}
-use Rattle.op_words.specs.Encoding.{narrow, encoded, IsFit}
+use Rattle.op_words.specs.Encoding.{row, narrow, encoded, IsFit}
 
 -- the signed number of two bytes, the lower first
 abbrev pub signed : (b c : ℕ) → ℤ
@@ -21,28 +25,36 @@ pub record ArePartsOf (word : ℕ) (following : Option ℕ) (p : Parts) : Type 0
   pub d : p.d ≡ signed p.b p.c
   pub aux : p.aux ≡ following
 
--- which fields an instruction names, and how it is made of them
-pub data Form : Type 0 where
-  with_a : (ℕ → Insn) → Form
-  with_ab : (ℕ → ℕ → Insn) → Form
-  with_abc : (ℕ → ℕ → ℕ → Insn) → Form
-  with_d : (ℤ → Insn) → Form
-  with_ad : (ℕ → ℤ → Insn) → Form
-  with_a_aux : (ℕ → ℕ → Insn) → Form
-  with_ad_aux : (ℕ → ℤ → ℕ → Insn) → Form
+-- ---- the instruction that an opcode names
 
--- the instruction that a form makes, unless a field that it does not name is not 0, or the second word is missing
-abbrev pub made : Form → Parts → Option Insn
-made (with_a f) p = if p.b == 0 && p.c == 0 then Some (f p.a) else None
-made (with_ab f) p = if p.c == 0 then Some (f p.a p.b) else None
-made (with_abc f) p = Some (f p.a p.b p.c)
-made (with_d f) p = if p.a == 0 then Some (f p.d) else None
-made (with_ad f) p = Some (f p.a p.d)
-made (with_a_aux f) p = if p.b == 0 && p.c == 0 then option_map (f p.a) p.aux else None
-made (with_ad_aux f) p = option_map (f p.a p.d) p.aux
+-- what the second word holds, and 0 where none follows
+abbrev pub second : Parts → ℕ
+second p = unwrap_or p.aux 0
 
--- the table, read from the opcode
-abbrev pub table : List (ℕ × Form)
+-- the forms of instructions: which parts of a word an instruction is made of
+abbrev pub with_a : (ℕ → Insn) → Parts → Insn
+with_a f p = f p.a
+
+abbrev pub with_ab : (ℕ → ℕ → Insn) → Parts → Insn
+with_ab f p = f p.a p.b
+
+abbrev pub with_abc : (ℕ → ℕ → ℕ → Insn) → Parts → Insn
+with_abc f p = f p.a p.b p.c
+
+abbrev pub with_d : (ℤ → Insn) → Parts → Insn
+with_d f p = f p.d
+
+abbrev pub with_ad : (ℕ → ℤ → Insn) → Parts → Insn
+with_ad f p = f p.a p.d
+
+abbrev pub with_a_aux : (ℕ → ℕ → Insn) → Parts → Insn
+with_a_aux f p = f p.a (second p)
+
+abbrev pub with_ad_aux : (ℕ → ℤ → ℕ → Insn) → Parts → Insn
+with_ad_aux f p = f p.a p.d (second p)
+
+-- the table: each opcode, and the instruction that it names
+abbrev pub table : List (ℕ × (Parts → Insn))
 table =
     (3, with_ad LoadN) ∷ (4, with_ad LoadK)
     ∷ (5, with_ab Move)
@@ -64,12 +76,34 @@ table =
     ∷ []
 
 -- what the row with the opcode makes of the parts
-abbrev pub looked_up : List (ℕ × Form) → Parts → Option Insn
+abbrev pub looked_up : List (ℕ × (Parts → Insn)) → Parts → Option Insn
 looked_up [] p = None
-looked_up (r ∷ rs) p = if p.opcode == r.0 then made r.1 p else looked_up rs p
+looked_up (r ∷ rs) p = if p.opcode == r.0 then Some (r.1 p) else looked_up rs p
 
+unfoldable pub named : Parts → Option Insn
+named p = looked_up table p
+
+-- ---- the instruction that a word stands for
+
+-- the fields are those of the parts
+abbrev pub has_fields : Fields → Parts → Bool
+has_fields (Abc a b c) p = a == p.a && (b == p.b && c == p.c)
+has_fields (Ad a d) p = a == p.a && int_eq d p.d
+
+-- the second word follows where there is one
+abbrev pub is_followed : (aux following : Option ℕ) → Bool
+is_followed None following = true
+is_followed (Some x) None = false
+is_followed (Some x) (Some y) = x == y
+
+-- the parts are those of the row
+abbrev pub has_parts : Row → Parts → Bool
+has_parts r p = r.opcode == p.opcode && (has_fields r.fields p && is_followed r.aux p.aux)
+
+-- the instruction that the opcode names, if the parts are those of its row: so each field that it does not name is 0, and
+-- its second word follows
 unfoldable pub insn_of : Parts → Option Insn
-insn_of p = looked_up table p
+insn_of p = option_and_then (λ insn. if has_parts (row insn) p then Some insn else None) (named p)
 
 -- a word's bytes, from the low one
 abbrev pub parts_of : (word : ℕ) → (following : Option ℕ) → Parts

@@ -1,10 +1,11 @@
 //! Instructions read from words.
 
-ghost use Rattle.std.specs.Prelude.{◌≡◌, ◌+◌, ◌<◌, ◌≤◌, ◌↔◌, ◌==◌, ◌&&◌, if◌then◌else◌, option_map, List, ℕ, [], ◌++◌, length, drop, Some, None, IsNone, IfSome, OnSome, slice_get};
+ghost use Rattle.std.specs.Prelude.{◌≡◌, ◌+◌, ◌<◌, ◌↔◌, List, ℕ, ◌++◌, length, drop, Some, IsNone, IfSome, OnSome, slice_get};
 ghost use Rattle.op_words.specs.declared.insn.Insn.{Insn};
 ghost use Rattle.op_words.specs.Encoding.{encoded, IsFit};
-ghost use Rattle.op_words.specs.Decoding.{insn_at, insn_of, ArePartsOf, StandsAt};
+ghost use Rattle.op_words.specs.Decoding.{insn_at, insn_of, named, has_parts, has_fields, is_followed, ArePartsOf, StandsAt};
 
+use crate::encoding::{Fields, Row};
 use crate::insn::Insn;
 
 /// The instruction at a place of the code, and the place behind its words.
@@ -58,86 +59,112 @@ impl Parts {
         }
     }
 
+    /// The instruction that the opcode names, where the word and the one behind it are its words.
     #[tactic(auto, unfolding(crate::specs::Decoding::insn_of))]
     fn insn(&self) -> Option<Insn>
         ensures { result ≡ insn_of self.now }
     {
-        let a = self.a();
-        let ab = self.ab();
-        let abc = self.abc();
-        let d = self.d();
-        let ad = self.ad();
-        let a_aux = self.a_aux();
-        let ad_aux = self.ad_aux();
+        let insn = self.named()?;
+        insn.row().has_parts(self).then_some(insn)
+    }
+
+    /// The instruction that the opcode names, whatever stands in the fields that it does not name.
+    #[tactic(auto, unfolding(crate::specs::Decoding::named))]
+    fn named(&self) -> Option<Insn>
+        ensures { result ≡ named self.now }
+    {
+        let Parts { a, b, c, d, .. } = *self;
+        let x = self.aux.unwrap_or(0);
         match self.opcode {
-            3 => ad.map(|(to, value)| Insn::LoadN { to, value }),
-            4 => ad.map(|(to, constant)| Insn::LoadK { to, constant }),
-            5 => ab.map(|(to, from)| Insn::Move { to, from }),
-            6 => a_aux.map(|(to, constant)| Insn::GetGlobal { to, constant }),
-            20 => abc.map(|(base, arguments, results)| Insn::Call {
-                base,
-                arguments,
-                results,
+            3 => Some(Insn::LoadN { to: a, value: d }),
+            4 => Some(Insn::LoadK { to: a, constant: d }),
+            5 => Some(Insn::Move { to: a, from: b }),
+            6 => Some(Insn::GetGlobal { to: a, constant: x }),
+            20 => Some(Insn::Call {
+                base: a,
+                arguments: b,
+                results: c,
             }),
-            21 => ab.map(|(base, values)| Insn::Return { base, values }),
-            22 => d.map(|by| Insn::Jump { by }),
-            23 => d.map(|by| Insn::JumpBack { by }),
-            26 => ad_aux.map(|(left, by, right)| Insn::JumpIfEq { left, by, right }),
-            27 => ad_aux.map(|(left, by, right)| Insn::JumpIfLe { left, by, right }),
-            28 => ad_aux.map(|(left, by, right)| Insn::JumpIfLt { left, by, right }),
-            29 => ad_aux.map(|(left, by, right)| Insn::JumpIfNotEq { left, by, right }),
-            30 => ad_aux.map(|(left, by, right)| Insn::JumpIfNotLe { left, by, right }),
-            31 => ad_aux.map(|(left, by, right)| Insn::JumpIfNotLt { left, by, right }),
-            32 => abc.map(|(to, left, right)| Insn::Add { to, left, right }),
-            33 => abc.map(|(to, left, right)| Insn::Sub { to, left, right }),
-            34 => abc.map(|(to, left, right)| Insn::Mul { to, left, right }),
-            63 => a.map(|parameters| Insn::PrepVarargs { parameters }),
+            21 => Some(Insn::Return { base: a, values: b }),
+            22 => Some(Insn::Jump { by: d }),
+            23 => Some(Insn::JumpBack { by: d }),
+            26 => Some(Insn::JumpIfEq {
+                left: a,
+                by: d,
+                right: x,
+            }),
+            27 => Some(Insn::JumpIfLe {
+                left: a,
+                by: d,
+                right: x,
+            }),
+            28 => Some(Insn::JumpIfLt {
+                left: a,
+                by: d,
+                right: x,
+            }),
+            29 => Some(Insn::JumpIfNotEq {
+                left: a,
+                by: d,
+                right: x,
+            }),
+            30 => Some(Insn::JumpIfNotLe {
+                left: a,
+                by: d,
+                right: x,
+            }),
+            31 => Some(Insn::JumpIfNotLt {
+                left: a,
+                by: d,
+                right: x,
+            }),
+            32 => Some(Insn::Add {
+                to: a,
+                left: b,
+                right: c,
+            }),
+            33 => Some(Insn::Sub {
+                to: a,
+                left: b,
+                right: c,
+            }),
+            34 => Some(Insn::Mul {
+                to: a,
+                left: b,
+                right: c,
+            }),
+            63 => Some(Insn::PrepVarargs { parameters: a }),
             _ => None,
         }
     }
+}
 
-    // The fields that a row names, where those that it does not name are 0.
-
-    fn a(&self) -> Option<u8>
-        ensures { result ≡ (if self.now.b == 0 && self.now.c == 0 then Some self.now.a else None) }
+impl Row {
+    /// Whether these are the word's opcode and fields, and the word behind it is the second, where the row has one.
+    fn has_parts(&self, parts: &Parts) -> bool
+        ensures { result ≡ has_parts self.now parts.now }
     {
-        (self.b == 0 && self.c == 0).then_some(self.a)
+        self.opcode == parts.opcode && self.fields.are_of(parts) && is_followed(self.aux, parts.aux)
     }
+}
 
-    fn ab(&self) -> Option<(u8, u8)>
-        ensures { result ≡ (if self.now.c == 0 then Some (self.now.a, self.now.b) else None) }
+impl Fields {
+    fn are_of(&self, parts: &Parts) -> bool
+        ensures { result ≡ has_fields self.now parts.now }
     {
-        (self.c == 0).then_some((self.a, self.b))
+        match *self {
+            Fields::Abc(a, b, c) => a == parts.a && b == parts.b && c == parts.c,
+            Fields::Ad(a, d) => a == parts.a && d == parts.d,
+        }
     }
+}
 
-    fn abc(&self) -> Option<(u8, u8, u8)>
-        ensures { result ≡ Some (self.now.a, self.now.b, self.now.c) }
-    {
-        Some((self.a, self.b, self.c))
-    }
-
-    fn d(&self) -> Option<i16>
-        ensures { result ≡ (if self.now.a == 0 then Some self.now.d else None) }
-    {
-        (self.a == 0).then_some(self.d)
-    }
-
-    fn ad(&self) -> Option<(u8, i16)>
-        ensures { result ≡ Some (self.now.a, self.now.d) }
-    {
-        Some((self.a, self.d))
-    }
-
-    fn a_aux(&self) -> Option<(u8, u32)>
-        ensures { result ≡ (if self.now.b == 0 && self.now.c == 0
-            then option_map (λ x. (self.now.a, x)) self.now.aux else None) }
-    {
-        self.a().and_then(|a| self.aux.map(|x| (a, x)))
-    }
-
-    fn ad_aux(&self) -> Option<(u8, i16, u32)>
-        ensures { result ≡ option_map (λ x. (self.now.a, self.now.d, x)) self.now.aux }
-    {
-        self.aux.map(|x| (self.a, self.d, x))
+fn is_followed(aux: Option<u32>, following: Option<u32>) -> bool
+    ensures { result ≡ is_followed aux following }
+{
+    match (aux, following) {
+        (None, _) => true,
+        (Some(x), Some(y)) => x == y,
+        (Some(_), None) => false,
     }
 }

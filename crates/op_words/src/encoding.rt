@@ -1,9 +1,13 @@
 //! Instructions packed into words.
 
 ghost use Rattle.std.specs.Prelude.{◌≡◌, length};
+ghost use Rattle.std.specs.Cmp.{on_equiv, partial_equiv_from_equiv};
+ghost use Rattle.std.specs.Ordering.{on};
 ghost use Rattle.op_words.specs.Encoding.{encoded, row, word_of, words_of};
 
 use crate::insn::Insn;
+use Fields::{Abc, Ad};
+use std::fmt;
 
 /// The one or two words of an instruction.
 #[derive(Clone, Copy)]
@@ -14,16 +18,16 @@ pub struct Words {
 }
 
 /// What an instruction's first word holds behind the opcode. A field that an instruction does not name is 0.
-#[derive(Clone, Copy)]
+#[derive(Clone, Copy, PartialEq, Eq, Debug)]
 pub enum Fields {
-    /// Three fields of 8 bits.
-    Abc { a: u8, b: u8, c: u8 },
-    /// A field of 8 bits, and a signed one of 16.
-    Ad { a: u8, d: i16 },
+    /// A, B and C, of 8 bits each.
+    Abc(u8, u8, u8),
+    /// A of 8 bits, and the signed D of 16.
+    Ad(u8, i16),
 }
 
 /// An instruction as it stands in the table.
-#[derive(Clone, Copy)]
+#[derive(Clone, Copy, PartialEq, Eq, Debug)]
 pub struct Row {
     pub opcode: u8,
     pub fields: Fields,
@@ -52,75 +56,151 @@ impl Insn {
         }
     }
 
-    fn row(&self) -> Row
+    /// The instruction's row of the table.
+    pub(crate) fn row(&self) -> Row
         ensures { result ≡ row self.now }
     {
+        let (fields, aux) = self.operands();
+        Row {
+            opcode: self.opcode(),
+            fields,
+            aux,
+        }
+    }
+
+    fn opcode(&self) -> u8
+        ensures { result ≡ (row self.now).opcode }
+    {
         match *self {
-            Insn::LoadN { to, value } => Row::ad(3, to, value),
-            Insn::LoadK { to, constant } => Row::ad(4, to, constant),
-            Insn::Move { to, from } => Row::abc(5, to, from, 0),
-            Insn::GetGlobal { to, constant } => Row::abc(6, to, 0, 0).with_aux(constant),
+            Insn::LoadN { .. } => 3,
+            Insn::LoadK { .. } => 4,
+            Insn::Move { .. } => 5,
+            Insn::GetGlobal { .. } => 6,
+            Insn::Call { .. } => 20,
+            Insn::Return { .. } => 21,
+            Insn::Jump { .. } => 22,
+            Insn::JumpBack { .. } => 23,
+            Insn::JumpIfEq { .. } => 26,
+            Insn::JumpIfLe { .. } => 27,
+            Insn::JumpIfLt { .. } => 28,
+            Insn::JumpIfNotEq { .. } => 29,
+            Insn::JumpIfNotLe { .. } => 30,
+            Insn::JumpIfNotLt { .. } => 31,
+            Insn::Add { .. } => 32,
+            Insn::Sub { .. } => 33,
+            Insn::Mul { .. } => 34,
+            Insn::PrepVarargs { .. } => 63,
+        }
+    }
+
+    /// What stands behind the opcode, in one arm for each form: the fields that its instructions name, and the second word.
+    fn operands(&self) -> (Fields, Option<u32>)
+        ensures { let r = row self.now in result ≡ (r.fields, r.aux) }
+    {
+        match *self {
+            Insn::PrepVarargs { parameters: a } => (Abc(a, 0, 0), None),
+            Insn::Move { to: a, from: b } | Insn::Return { base: a, values: b } => (
+                Abc(a, b, 0),
+                None,
+            ),
             Insn::Call {
-                base,
-                arguments,
-                results,
-            } => Row::abc(20, base, arguments, results),
-            Insn::Return { base, values } => Row::abc(21, base, values, 0),
-            Insn::Jump { by } => Row::ad(22, 0, by),
-            Insn::JumpBack { by } => Row::ad(23, 0, by),
-            Insn::JumpIfEq { left, by, right } => Row::ad(26, left, by).with_aux(right),
-            Insn::JumpIfLe { left, by, right } => Row::ad(27, left, by).with_aux(right),
-            Insn::JumpIfLt { left, by, right } => Row::ad(28, left, by).with_aux(right),
-            Insn::JumpIfNotEq { left, by, right } => Row::ad(29, left, by).with_aux(right),
-            Insn::JumpIfNotLe { left, by, right } => Row::ad(30, left, by).with_aux(right),
-            Insn::JumpIfNotLt { left, by, right } => Row::ad(31, left, by).with_aux(right),
-            Insn::Add { to, left, right } => Row::abc(32, to, left, right),
-            Insn::Sub { to, left, right } => Row::abc(33, to, left, right),
-            Insn::Mul { to, left, right } => Row::abc(34, to, left, right),
-            Insn::PrepVarargs { parameters } => Row::abc(63, parameters, 0, 0),
+                base: a,
+                arguments: b,
+                results: c,
+            }
+            | Insn::Add {
+                to: a,
+                left: b,
+                right: c,
+            }
+            | Insn::Sub {
+                to: a,
+                left: b,
+                right: c,
+            }
+            | Insn::Mul {
+                to: a,
+                left: b,
+                right: c,
+            } => (Abc(a, b, c), None),
+            Insn::Jump { by: d } | Insn::JumpBack { by: d } => (Ad(0, d), None),
+            Insn::LoadN { to: a, value: d } | Insn::LoadK { to: a, constant: d } => (
+                Ad(a, d),
+                None,
+            ),
+            Insn::GetGlobal { to: a, constant: x } => (Abc(a, 0, 0), Some(x)),
+            Insn::JumpIfEq {
+                left: a,
+                by: d,
+                right: x,
+            }
+            | Insn::JumpIfLe {
+                left: a,
+                by: d,
+                right: x,
+            }
+            | Insn::JumpIfLt {
+                left: a,
+                by: d,
+                right: x,
+            }
+            | Insn::JumpIfNotEq {
+                left: a,
+                by: d,
+                right: x,
+            }
+            | Insn::JumpIfNotLe {
+                left: a,
+                by: d,
+                right: x,
+            }
+            | Insn::JumpIfNotLt {
+                left: a,
+                by: d,
+                right: x,
+            } => (Ad(a, d), Some(x)),
         }
     }
 }
 
 impl Row {
-    fn abc(opcode: u8, a: u8, b: u8, c: u8) -> Row
-        ensures { result ≡ record { opcode = opcode; fields = Fields.Abc a b c; aux = None } }
-    {
-        Row {
-            opcode,
-            fields: Fields::Abc { a, b, c },
-            aux: None,
-        }
-    }
-
-    fn ad(opcode: u8, a: u8, d: i16) -> Row
-        ensures { result ≡ record { opcode = opcode; fields = Fields.Ad a d; aux = None } }
-    {
-        Row {
-            opcode,
-            fields: Fields::Ad { a, d },
-            aux: None,
-        }
-    }
-
-    fn with_aux(self, aux: u32) -> Row
-        ensures { result ≡ record self { aux = Some aux } }
-    {
-        Row {
-            aux: Some(aux),
-            ..self
-        }
-    }
-
     fn pack(&self) -> u32
         ensures { result ≡ word_of self.now }
     {
         match self.fields {
-            Fields::Abc { a, b, c } => u32::from_le_bytes([self.opcode, a, b, c]),
-            Fields::Ad { a, d } => {
+            Abc(a, b, c) => u32::from_le_bytes([self.opcode, a, b, c]),
+            Ad(a, d) => {
                 let [low, high] = d.to_le_bytes();
                 u32::from_le_bytes([self.opcode, a, low, high])
             }
         }
+    }
+}
+
+// An instruction is compared and shown by its row. Two instructions with one row are the same, since each has its own
+// opcode, and a derive would take both apart variant by variant.
+
+impl PartialEq for Insn {
+    ghost use Rattle.op_words.specs.contracts.encoding.RowPartialEq.TheImpl as rows;
+    ghost use Rattle.op_words.specs.contracts.encoding.RowEq.TheImpl.Laws.{laws-law};
+
+    ghost eq = { on row (rows.ghosts).eq };
+
+    ghost laws = { partial_equiv_from_equiv (on_equiv row laws-law) };
+
+    fn eq(&self, other: &Insn) -> bool {
+        self.row() == other.row()
+    }
+}
+
+impl Eq for Insn {
+    ghost use Rattle.op_words.specs.contracts.encoding.RowEq.TheImpl.Laws.{laws-law};
+
+    ghost laws = { on_equiv row laws-law };
+}
+
+impl fmt::Debug for Insn {
+    fn fmt<W: fmt::Write>(&self, f: &mut fmt::Formatter<W>) -> fmt::Result {
+        self.row().fmt(f)
     }
 }

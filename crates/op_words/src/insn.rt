@@ -3,7 +3,7 @@
 /// An instruction of the machine. A register counts from 0, and a constant is named by its index.
 ///
 /// A jump goes by so many words from the word behind its first, back where the number is negative.
-#[derive(Clone, Copy, PartialEq, Eq, Debug)]
+#[derive(Clone, Copy)]
 pub enum Insn {
     /// A number into a register.
     LoadN {

@@ -1,7 +1,9 @@
 //! The machine's instructions, and the words that they are packed into.
 //!
-//! Each instruction has one row in the table of `specs/Encoding.antt`, one in `Insn::row` and one in
-//! `Parts::insn`; everything else is said and proved once, for all rows.
+//! Each instruction has a line in `row` of `specs/Encoding.antt`, which says what it is packed of, and one in `table` of
+//! `specs/Decoding.antt`, which says by its opcode how it is made of a word. In the code the first is `Insn::opcode` and
+//! its form's arm of `Insn::operands`, and the second is `Parts::named`. Everything else is said and proved once, for all
+//! instructions: an instruction stands where its own row has the word's parts.
 #![tactic(auto)]
 
 mod decoding;
