@@ -1,5 +1,5 @@
 use std::test::Fail;
-use whole_num::{Read, Stop, Whole, print_into, read_literal};
+use whole_num::{Read, Stop, Whole, print_into, read, read_literal};
 
 const GREATEST: i64 = 9_007_199_254_740_992;
 
@@ -11,11 +11,22 @@ fn in_range(n: Option<i64>) -> Result<Whole, Stop> {
     n.and_then(Whole::new).ok_or(Stop::OutOfRange)
 }
 
+fn is_whole(n: Option<i64>) -> Result<Whole, Stop> {
+    n.and_then(Whole::new).ok_or(Stop::NotWhole)
+}
+
+fn number(n: i64) -> Read {
+    match Whole::new(n) {
+        Some(whole) => Read::Whole(whole),
+        None => Read::NotNumber,
+    }
+}
+
 #[test]
 fn bounds(rt: HostRuntime) {
     assert_eq!(rt; Whole::LEAST, -GREATEST);
     assert_eq!(rt; Whole::GREATEST, GREATEST);
-    for (n, inside) in [
+    for (n, inside) in &[
         (0, true),
         (GREATEST, true),
         (GREATEST + 1, false),
@@ -24,15 +35,15 @@ fn bounds(rt: HostRuntime) {
         (i64::MAX, false),
         (i64::MIN, false),
     ] {
-        let found = Whole::new(n).map(|w| w.get());
-        assert_eq!(rt; found, inside.then_some(n), "at {n}");
+        let found = Whole::new(*n).map(|w| w.get());
+        assert_eq!(rt; found, inside.then_some(*n), "at {n}");
     }
 }
 
 #[test]
 fn arithmetic(rt: HostRuntime) -> Result<(), Fail> {
     // Two numbers, and then their sum, difference and product, `None` where it is out of range.
-    for (a, b, sum, difference, product) in [
+    for (a, b, sum, difference, product) in &[
         (3, -4, Some(-1), Some(7), Some(-12)),
         (GREATEST, 0, Some(GREATEST), Some(GREATEST), Some(0)),
         (GREATEST, 1, None, Some(GREATEST - 1), Some(GREATEST)),
@@ -48,17 +59,75 @@ fn arithmetic(rt: HostRuntime) -> Result<(), Fail> {
         ),
         (94_906_267, 94_906_267, Some(189_812_534), Some(0), None),
     ] {
-        let (x, y) = (whole(a)?, whole(b)?);
-        assert_eq!(rt; x.add(y), in_range(sum), "{a} + {b}");
-        assert_eq!(rt; x.sub(y), in_range(difference), "{a} - {b}");
-        assert_eq!(rt; x.mul(y), in_range(product), "{a} * {b}");
+        let (x, y) = (whole(*a)?, whole(*b)?);
+        assert_eq!(rt; x.add(y), in_range(*sum), "{a} + {b}");
+        assert_eq!(rt; x.sub(y), in_range(*difference), "{a} - {b}");
+        assert_eq!(rt; x.mul(y), in_range(*product), "{a} * {b}");
+    }
+    for (a, opposite) in &[(0, 0), (5, -5), (-GREATEST, GREATEST)] {
+        assert_eq!(rt; whole(*a)?.neg(), whole(*opposite)?, "-{a}");
+    }
+    Ok(())
+}
+
+#[test]
+fn quotients(rt: HostRuntime) -> Result<(), Fail> {
+    // Two numbers, and then their quotient, that rounded down and what it leaves, `None` where it is not whole.
+    for (a, b, exact, down, left) in &[
+        (7, 2, None, Some(3), Some(1)),
+        (7, -2, None, Some(-4), Some(-1)),
+        (-7, 2, None, Some(-4), Some(1)),
+        (-7, -2, None, Some(3), Some(-1)),
+        (6, 3, Some(2), Some(2), Some(0)),
+        (6, -3, Some(-2), Some(-2), Some(0)),
+        (0, -5, Some(0), Some(0), Some(0)),
+        (1, GREATEST, None, Some(0), Some(1)),
+        (-1, GREATEST, None, Some(-1), Some(GREATEST - 1)),
+        (-GREATEST, -1, Some(GREATEST), Some(GREATEST), Some(0)),
+        (1, 0, None, None, None),
+        (0, 0, None, None, None),
+    ] {
+        let (x, y) = (whole(*a)?, whole(*b)?);
+        assert_eq!(rt; x.div(y), is_whole(*exact), "{a} / {b}");
+        assert_eq!(rt; x.idiv(y), is_whole(*down), "{a} // {b}");
+        assert_eq!(rt; x.modulo(y), is_whole(*left), "{a} % {b}");
+    }
+    Ok(())
+}
+
+#[test]
+fn powers(rt: HostRuntime) -> Result<(), Fail> {
+    for (a, b, power) in &[
+        (2, 53, Some(GREATEST)),
+        (2, 54, None),
+        (-2, 53, Some(-GREATEST)),
+        (3, 33, Some(5_559_060_566_555_523)),
+        (3, 34, None),
+        (94_906_265, 2, Some(9_007_199_136_250_225)),
+        (94_906_266, 2, None),
+        (-10, GREATEST, None),
+        (7, 0, Some(1)),
+        (0, 0, Some(1)),
+        (0, GREATEST, Some(0)),
+        (1, -GREATEST, Some(1)),
+        (-1, GREATEST, Some(1)),
+        (-1, -3, Some(-1)),
+    ] {
+        assert_eq!(rt; whole(*a)?.pow(whole(*b)?), in_range(*power), "{a} ^ {b}");
+    }
+    for (a, b) in &[(0, -1), (2, -1), (-2, -GREATEST)] {
+        assert_eq!(rt;
+            whole(*a)?.pow(whole(*b)?),
+            Err(Stop::NotWhole),
+            "{a} ^ {b}"
+        );
     }
     Ok(())
 }
 
 #[test]
 fn texts(rt: HostRuntime) -> Result<(), Fail> {
-    for (n, text) in [
+    for (n, text) in &[
         (0, "0"),
         (-1, "-1"),
         (120, "120"),
@@ -66,7 +135,7 @@ fn texts(rt: HostRuntime) -> Result<(), Fail> {
         (-GREATEST, "-9007199254740992"),
     ] {
         let mut out = [b'='].to_vec(rt.alloc())?;
-        print_into(whole(n)?, &mut out)?;
+        print_into(whole(*n)?, &mut out)?;
         let want = format!(in rt.alloc(); "={text}")?;
         assert_eq!(rt; out.as_slice(), want.as_bytes(), "at {n}");
     }
@@ -77,7 +146,7 @@ fn texts(rt: HostRuntime) -> Result<(), Fail> {
 
 #[test]
 fn literals(rt: HostRuntime) {
-    for (text, value) in [
+    for (text, value) in &[
         ("0", 0),
         ("9007199254740992", GREATEST),
         ("000_000_000_000_000_000_000_000_1__", 1),
@@ -95,14 +164,9 @@ fn literals(rt: HostRuntime) {
         ("0b101", 5),
         ("_0_B_0", 0),
     ] {
-        let found = read_literal(text.as_bytes());
-        let want = match Whole::new(value) {
-            Some(whole) => Read::Whole(whole),
-            None => Read::NotNumber,
-        };
-        assert_eq!(rt; found, want, "at {text}");
+        assert_eq!(rt; read_literal(text.as_bytes()), number(*value), "at {text}");
     }
-    for (text, want) in [
+    for (text, want) in &[
         ("1.5", Read::NotWhole),
         ("25e-3", Read::NotWhole),
         ("1e-99999999999999999999", Read::NotWhole),
@@ -128,7 +192,53 @@ fn literals(rt: HostRuntime) {
         ("0b2", Read::NotNumber),
         ("0b", Read::NotNumber),
     ] {
-        assert_eq!(rt; read_literal(text.as_bytes()), want, "at {text}");
+        assert_eq!(rt; read_literal(text.as_bytes()), *want, "at {text}");
+    }
+}
+
+#[test]
+fn texts_read(rt: HostRuntime) {
+    for (text, value) in &[
+        ("10", 10),
+        (" \t\n\u{b}\u{c}\r-12 \r\u{c}\u{b}\n\t ", -12),
+        ("+7", 7),
+        ("007", 7),
+        ("-0", 0),
+        ("1e2", 100),
+        ("-1.50E+1", -15),
+        ("5.", 5),
+        (".5e1", 5),
+        ("0e99999999999999999999", 0),
+        ("0xfF", 255),
+        ("-0x10", -16),
+        ("0x20000000000000", GREATEST),
+        ("-9007199254740992", -GREATEST),
+    ] {
+        assert_eq!(rt; read(text.as_bytes()), number(*value), "at {text}");
+    }
+    for (text, want) in &[
+        ("1.5", Read::NotWhole),
+        ("-1e-1", Read::NotWhole),
+        ("9007199254740993", Read::OutOfRange),
+        ("-0x20000000000001", Read::OutOfRange),
+        ("-1e400", Read::OutOfRange),
+        ("", Read::NotNumber),
+        (" ", Read::NotNumber),
+        ("-", Read::NotNumber),
+        ("- 1", Read::NotNumber),
+        ("+-1", Read::NotNumber),
+        ("1 2", Read::NotNumber),
+        ("1a", Read::NotNumber),
+        (".", Read::NotNumber),
+        ("1e", Read::NotNumber),
+        ("0x", Read::NotNumber),
+        ("0xg", Read::NotNumber),
+        ("0X10", Read::NotNumber),
+        ("0b1", Read::NotNumber),
+        ("1_000", Read::NotNumber),
+        ("0x_1", Read::NotNumber),
+    ] {
+        assert_eq!(rt; read(text.as_bytes()), *want, "at {text}");
     }
 }
 
