@@ -196,7 +196,7 @@ gives_whole_remainder a (negsuc b) = left_given a (negsuc b) (λ e. omega (arith
 
 -- ---- what the code's `/` and `%` give
 
-abs_neg : (n : ℕ) → unsigned_abs (neg_ℤ (pos n)) ≡ n
+pub abs_neg : (n : ℕ) → unsigned_abs (neg_ℤ (pos n)) ≡ n
 abs_neg zero = refl
 abs_neg (suc n) = refl
 

@@ -11,7 +11,7 @@ use Rattle.whole_num.specs.Whole.{within, is_whole}
 use Rattle.whole_num.specs.Quotients.{product, IsRaised, Gives, inverse_power, power}
 use Rattle.whole_num.specs.declared.arithmetic.Stop.{Stop}
 use Rattle.whole_num.specs.declared.arithmetic.Stop.TheVariants.{OutOfRange}
-use Rattle.whole_num.proofs.Division.{gives_within}
+use Rattle.whole_num.proofs.Division.{abs_neg, gives_within}
 
 -- ---- a factor more
 
@@ -45,10 +45,6 @@ product_is (negsuc a) zero = ap pos (sym (pow-zero (suc a)))
 product_is a (suc n) = ap (λ x. x *ℤ a) (product_is a n) ∙ sym (factor_more a n)
 
 -- ---- sizes
-
-abs_neg : (n : ℕ) → unsigned_abs (neg_ℤ (pos n)) ≡ n
-abs_neg zero = refl
-abs_neg (suc n) = refl
 
 pub abs_power : (a : ℤ) (n : ℕ) → unsigned_abs (int_pow a n) ≡ unsigned_abs a ^ n
 abs_power (pos a) n = refl

@@ -4,6 +4,7 @@ use Rattle.std.specs.List.{list_all}
 use Rattle.std.specs.Char.{digit_value}
 use Rattle.std.specs.Str.Parse.{AllDigits, IsNumeral, digits_value}
 use Rattle.std.proofs.Math.Nat.{mod-add-div', mul-mod_left}
+use Rattle.std.proofs.lemmas.Bool.{eqb-true, eqb-false}
 use Rattle.std.proofs.lemmas.Bool.Decides.{nat_tests}
 use Rattle.std.proofs.lemmas.Grind.{common_steps}
 use Rattle.whole_num.specs.Whole.{within, is_whole}
@@ -94,31 +95,31 @@ behind_begins (b ∷ bs) = by (is_digit_in 10 b) refl (behind_begins bs)
     by true e h = h
     by false e h = no_digit_is b e
 
--- ---- numerals
+-- ---- numerals of a base
 
-all_digits : (ds : List ℕ) → list_all (is_digit_in 10) ds ≡ true → AllDigits 10 ds
-all_digits [] e = tt
-all_digits (d ∷ ds) e = by (is_digit_in 10 d) refl e (all_digits ds)
+digits_are : (r : ℕ) (ds : List ℕ) → list_all (is_digit_in r) ds ≡ true → AllDigits r ds
+digits_are r [] e = tt
+digits_are r (d ∷ ds) e = by (is_digit_in r d) refl e (digits_are r ds)
   where
-    by : (t : Bool) → is_digit_in 10 d ≡ t → (t && list_all (is_digit_in 10) ds) ≡ true → (list_all (is_digit_in 10) ds ≡ true → AllDigits 10 ds) → (digit_value d < 10) × AllDigits 10 ds
-    by true h e rest = (digit_is d h, rest e)
+    by : (t : Bool) → is_digit_in r d ≡ t → (t && list_all (is_digit_in r) ds) ≡ true → (list_all (is_digit_in r) ds ≡ true → AllDigits r ds) → (digit_value d < r) × AllDigits r ds
+    by true h e rest = (grind (arith, nat_tests), rest e)
     by false h e rest = cc
 
-are_all : (ds : List ℕ) → AllDigits 10 ds → list_all (is_digit_in 10) ds ≡ true
-are_all [] h = refl
-are_all (d ∷ ds) h = by (is_digit_in 10 d) refl (are_all ds h.1)
+are_digits : (r : ℕ) (ds : List ℕ) → AllDigits r ds → list_all (is_digit_in r) ds ≡ true
+are_digits r [] h = refl
+are_digits r (d ∷ ds) h = by (is_digit_in r d) refl (are_digits r ds h.1)
   where
-    by : (t : Bool) → is_digit_in 10 d ≡ t → list_all (is_digit_in 10) ds ≡ true → (t && list_all (is_digit_in 10) ds) ≡ true
+    by : (t : Bool) → is_digit_in r d ≡ t → list_all (is_digit_in r) ds ≡ true → (t && list_all (is_digit_in r) ds) ≡ true
     by true e a = a
-    by false e a = absurd (let k = no_digit_is d e in let l = h.0 in omega (arith, k, l))
+    by false e a = absurd (let l = h.0 in grind (arith, nat_tests))
 
-numeral_is : (ds : List ℕ) → is_numeral 10 ds ≡ true → IsNumeral 10 ds
-numeral_is [] e = cc
-numeral_is (d ∷ ds) e = (omega arith, all_digits (d ∷ ds) e)
+pub is_numeral_in : (r : ℕ) (ds : List ℕ) → is_numeral r ds ≡ true → IsNumeral r ds
+is_numeral_in r [] e = cc
+is_numeral_in r (d ∷ ds) e = (omega arith, digits_are r (d ∷ ds) e)
 
-no_numeral_is : (ds : List ℕ) → is_numeral 10 ds ≡ false → IsNumeral 10 ds → ⊥
-no_numeral_is [] e h = absurd (omega (arith, h.0))
-no_numeral_is (d ∷ ds) e h = let a = are_all (d ∷ ds) h.1 in cc
+pub no_numeral_in : (r : ℕ) (ds : List ℕ) → is_numeral r ds ≡ false → IsNumeral r ds → ⊥
+no_numeral_in r [] e h = absurd (omega (arith, h.0))
+no_numeral_in r (d ∷ ds) e h = let a = are_digits r (d ∷ ds) h.1 in cc
 
 -- ---- exponents
 
@@ -130,26 +131,20 @@ ExponentIs : List ℕ → Option (ℕ × ℕ) → Type 0
 ExponentIs t None = (u d : ℕ) → IsExponent t u d → ⊥
 ExponentIs t (Some e) = IsExponent t e.0 e.1
 
-pub byte_is : (a b : ℕ) → nat_eq a b ≡ true → a ≡ b
-byte_is a b e = grind (arith, nat_tests)
-
-pub other_byte : (a b : ℕ) → nat_eq a b ≡ false → a ≢ b
-other_byte a b e = λ h. absurd (grind (arith, nat_tests))
-
 minus_is : (b : ℕ) (ds : List ℕ) → b ≡ 45 → (t : Bool) → is_numeral 10 ds ≡ t → PowerIs (b ∷ ds) (if t then Some (0, digits_value 10 ds) else None)
 unfolding PowerIs
-minus_is b ds e true n = subst (λ (c : ℕ). IsPower (c ∷ ds) 0 (digits_value 10 ds)) (sym e) (negative (numeral_is ds n))
-minus_is b ds e false n = λ u d h. no_numeral_is ds n (power_minus b ds (b ∷ ds) u d e refl h).0
+minus_is b ds e true n = subst (λ (c : ℕ). IsPower (c ∷ ds) 0 (digits_value 10 ds)) (sym e) (negative (is_numeral_in 10 ds n))
+minus_is b ds e false n = λ u d h. no_numeral_in 10 ds n (power_minus b ds (b ∷ ds) u d e refl h).0
 
 plus_is : (b : ℕ) (ds : List ℕ) → b ≡ 43 → (t : Bool) → is_numeral 10 ds ≡ t → PowerIs (b ∷ ds) (if t then Some (digits_value 10 ds, 0) else None)
 unfolding PowerIs
-plus_is b ds e true n = subst (λ (c : ℕ). IsPower (c ∷ ds) (digits_value 10 ds) 0) (sym e) (positive (numeral_is ds n))
-plus_is b ds e false n = λ u d h. no_numeral_is ds n (power_plus b ds (b ∷ ds) u d e refl h).0
+plus_is b ds e true n = subst (λ (c : ℕ). IsPower (c ∷ ds) (digits_value 10 ds) 0) (sym e) (positive (is_numeral_in 10 ds n))
+plus_is b ds e false n = λ u d h. no_numeral_in 10 ds n (power_plus b ds (b ∷ ds) u d e refl h).0
 
 bare_is : (b : ℕ) (ds : List ℕ) → b ≢ 45 → b ≢ 43 → (t : Bool) → is_numeral 10 (b ∷ ds) ≡ t → PowerIs (b ∷ ds) (if t then Some (digits_value 10 (b ∷ ds), 0) else None)
 unfolding PowerIs
-bare_is b ds m p true n = unsigned (numeral_is (b ∷ ds) n)
-bare_is b ds m p false n = λ u d h. no_numeral_is (b ∷ ds) n (power_bare b ds (b ∷ ds) u d m p refl h).0
+bare_is b ds m p true n = unsigned (is_numeral_in 10 (b ∷ ds) n)
+bare_is b ds m p false n = λ u d h. no_numeral_in 10 (b ∷ ds) n (power_bare b ds (b ∷ ds) u d m p refl h).0
 
 signed_power_is : (t : List ℕ) → PowerIs t (signed_power t)
 unfolding PowerIs
@@ -157,9 +152,9 @@ signed_power_is [] = λ u d h. power_some u d h
 signed_power_is (b ∷ ds) = by (nat_eq b 45) refl (nat_eq b 43) refl
   where
     by : (s : Bool) → nat_eq b 45 ≡ s → (t : Bool) → nat_eq b 43 ≡ t → PowerIs (b ∷ ds) (if s then power_of_ten true ds else if t then power_of_ten false ds else power_of_ten false (b ∷ ds))
-    by true e t f = minus_is b ds (byte_is b 45 e) (is_numeral 10 ds) refl
-    by false e true f = plus_is b ds (byte_is b 43 f) (is_numeral 10 ds) refl
-    by false e false f = bare_is b ds (other_byte b 45 e) (other_byte b 43 f) (is_numeral 10 (b ∷ ds)) refl
+    by true e t f = minus_is b ds (eqb-true b 45 e) (is_numeral 10 ds) refl
+    by false e true f = plus_is b ds (eqb-true b 43 f) (is_numeral 10 ds) refl
+    by false e false f = bare_is b ds (eqb-false b 45 e) (eqb-false b 43 f) (is_numeral 10 (b ∷ ds)) refl
 
 marked_is : (b : ℕ) (bs : List ℕ) → IsTrue (nat_eq b 101 || nat_eq b 69) → (o : Option (ℕ × ℕ)) → PowerIs bs o → ExponentIs (b ∷ bs) o
 unfolding PowerIs ExponentIs
@@ -188,10 +183,10 @@ parted t ds part fs rest p None h = no_powers t ds part fs rest p h
 parted t ds part fs rest p (Some e) h = by (nat_eq (length (ds ++ fs)) 0) refl
   where
     by : (b : Bool) → nat_eq (length (ds ++ fs)) 0 ≡ b → DecimalIs t (if b then None else Some (exact (digits_value 10 (ds ++ fs)) e.0 (length fs + e.1)))
-    by true n = no_digits t ds part fs rest p (byte_is (length (ds ++ fs)) 0 n)
+    by true n = no_digits t ds part fs rest p (eqb-true (length (ds ++ fs)) 0 n)
     by false n =
         let v : Scaled = record { mantissa = digits_value 10 (ds ++ fs); up = e.0; down = length fs + e.1 } in
-        let some : 0 < length (ds ++ fs) = let ne = other_byte (length (ds ++ fs)) 0 n in omega (arith, ne) in
+        let some : 0 < length (ds ++ fs) = let ne = eqb-false (length (ds ++ fs)) 0 n in omega (arith, ne) in
         (v, is_decimal t ds part fs rest p e.0 e.1 some h, refl)
 
 with_point : (t ds bs : List ℕ) → t ≡ ds ++ 46 ∷ bs → AllDigits 10 ds → DecimalIs t (with_fraction ds bs)
@@ -213,8 +208,8 @@ digits_then t ds [] e a ends = without_point t ds [] e a ends tt
 digits_then t ds (b ∷ bs) e a ends = by (nat_eq b 46) refl
   where
     by : (x : Bool) → nat_eq b 46 ≡ x → DecimalIs t (if x then with_fraction ds bs else with_exponent ds [] (exponent (b ∷ bs)))
-    by true h = with_point t ds bs (e ∙ ap (λ c. ds ++ c ∷ bs) (byte_is b 46 h)) a
-    by false h = without_point t ds (b ∷ bs) e a ends (other_byte b 46 h)
+    by true h = with_point t ds bs (e ∙ ap (λ c. ds ++ c ∷ bs) (eqb-true b 46 h)) a
+    by false h = without_point t ds (b ∷ bs) e a ends (eqb-false b 46 h)
 
 pub decimal_is : (t : List ℕ) → DecimalIs t (decimal_number t)
 decimal_is t =

@@ -5,11 +5,10 @@ use Rattle.std.proofs.lemmas.Bool.{and_parts, eqb-true, eqb-false, eq-eqb, ne_eq
 use Rattle.std.proofs.lemmas.List.{take-append-drop, take_all}
 use Rattle.std.specs.Char.{digit_value}
 use Rattle.std.specs.Str.Parse.{AllDigits, IsNumeral, digits_value}
-use Rattle.std.proofs.lemmas.Bool.Decides.{nat_tests}
 use Rattle.whole_num.specs.Whole.{within}
 use Rattle.whole_num.specs.Literals.{Scaled, Answers, without_marks, IsFraction, no_fraction, fraction, IsDecimal, IsLiteral, decimal as decimal_literal, hexadecimal as hexadecimal_literal}
 use Rattle.whole_num.proofs.Spelling.{names_no_decimal}
-use Rattle.whole_num.specs.NumberTexts.{ReadNumber, number_of, without_blanks_before, is_blank, is_visible, front, behind, is_digit_in, is_numeral, exact, numeral_number, decimal_number, unsigned_number, negated, signed_number, read_number}
+use Rattle.whole_num.specs.NumberTexts.{ReadNumber, number_of, without_blanks_before, is_blank, is_visible, front, behind, is_numeral, exact, numeral_number, decimal_number, unsigned_number, negated, signed_number, read_number}
 use Rattle.whole_num.specs.NumberGrammar.{IsSign, no_sign, plus, minus, IsUnsigned, decimal, hexadecimal, IsNumberText, SignedAnswers, ReadsText}
 use Rattle.whole_num.specs.declared.arithmetic.Stop.{Stop}
 use Rattle.whole_num.specs.declared.arithmetic.Stop.TheVariants.{NotWhole, OutOfRange}
@@ -17,33 +16,7 @@ use Rattle.whole_num.specs.declared.literal.Read.{Read}
 use Rattle.whole_num.specs.declared.literal.Read.TheVariants as read
 use Rattle.whole_num.proofs.Literals.{literal_once}
 use Rattle.whole_num.proofs.Seen.{of_unsigned, of_word, visible, unmarked, marks_none}
-use Rattle.whole_num.proofs.Readings.{read_of, same_answer, exact_answers, answers_are, DecimalIs, decimal_is, front_behind, byte_is, other_byte}
-
--- ---- numerals of a base
-
-digits_are : (r : ℕ) (ds : List ℕ) → list_all (is_digit_in r) ds ≡ true → AllDigits r ds
-digits_are r [] e = tt
-digits_are r (d ∷ ds) e = by (is_digit_in r d) refl e (digits_are r ds)
-  where
-    by : (t : Bool) → is_digit_in r d ≡ t → (t && list_all (is_digit_in r) ds) ≡ true → (list_all (is_digit_in r) ds ≡ true → AllDigits r ds) → (digit_value d < r) × AllDigits r ds
-    by true h e rest = (grind (arith, nat_tests), rest e)
-    by false h e rest = cc
-
-are_digits : (r : ℕ) (ds : List ℕ) → AllDigits r ds → list_all (is_digit_in r) ds ≡ true
-are_digits r [] h = refl
-are_digits r (d ∷ ds) h = by (is_digit_in r d) refl (are_digits r ds h.1)
-  where
-    by : (t : Bool) → is_digit_in r d ≡ t → list_all (is_digit_in r) ds ≡ true → (t && list_all (is_digit_in r) ds) ≡ true
-    by true e a = a
-    by false e a = absurd (let l = h.0 in grind (arith, nat_tests))
-
-is_numeral_in : (r : ℕ) (ds : List ℕ) → is_numeral r ds ≡ true → IsNumeral r ds
-is_numeral_in r [] e = cc
-is_numeral_in r (d ∷ ds) e = (omega arith, digits_are r (d ∷ ds) e)
-
-no_numeral_in : (r : ℕ) (ds : List ℕ) → is_numeral r ds ≡ false → IsNumeral r ds → ⊥
-no_numeral_in r [] e h = absurd (omega (arith, h.0))
-no_numeral_in r (d ∷ ds) e h = let a = are_digits r (d ∷ ds) h.1 in cc
+use Rattle.whole_num.proofs.Readings.{read_of, same_answer, exact_answers, answers_are, DecimalIs, decimal_is, front_behind, is_numeral_in, no_numeral_in}
 
 -- ---- without a sign
 
@@ -88,9 +61,9 @@ unsigned_is (a ∷ b ∷ bs) = by (nat_eq a 48) refl (nat_eq b 120) refl
     first_of_two c d cs ds e = (cc, cc)
 
     by : (x : Bool) → nat_eq a 48 ≡ x → (y : Bool) → nat_eq b 120 ≡ y → UnsignedIs (a ∷ b ∷ bs) (if x && y then numeral_number 16 bs else decimal_number (a ∷ b ∷ bs))
-    by true e true f = subst (λ t. UnsignedIs t (numeral_number 16 bs)) (λ i. sym (byte_is a 48 e) i ∷ sym (byte_is b 120 f) i ∷ bs) (as_hex bs (is_numeral 16 bs) refl)
-    by true e false f = as_decimal (a ∷ b ∷ bs) (λ ds h. other_byte b 120 f (first_of_two 48 120 [] ds h).1) (decimal_number (a ∷ b ∷ bs)) (decimal_is (a ∷ b ∷ bs))
-    by false e y f = as_decimal (a ∷ b ∷ bs) (λ ds h. other_byte a 48 e (first_of_two 48 120 [] ds h).0) (decimal_number (a ∷ b ∷ bs)) (decimal_is (a ∷ b ∷ bs))
+    by true e true f = subst (λ t. UnsignedIs t (numeral_number 16 bs)) (λ i. sym (eqb-true a 48 e) i ∷ sym (eqb-true b 120 f) i ∷ bs) (as_hex bs (is_numeral 16 bs) refl)
+    by true e false f = as_decimal (a ∷ b ∷ bs) (λ ds h. eqb-false b 120 f (first_of_two 48 120 [] ds h).1) (decimal_number (a ∷ b ∷ bs)) (decimal_is (a ∷ b ∷ bs))
+    by false e y f = as_decimal (a ∷ b ∷ bs) (λ ds h. eqb-false a 48 e (first_of_two 48 120 [] ds h).0) (decimal_number (a ∷ b ∷ bs)) (decimal_is (a ∷ b ∷ bs))
 
 -- ---- signs
 
@@ -174,9 +147,9 @@ signed_is [] = no_empty_signed
 signed_is (b ∷ bs) = by (nat_eq b 45) refl (nat_eq b 43) refl
   where
     by : (x : Bool) → nat_eq b 45 ≡ x → (y : Bool) → nat_eq b 43 ≡ y → SignedIs (b ∷ bs) (if x then option_map negated (unsigned_number bs) else if y then unsigned_number bs else unsigned_number (b ∷ bs))
-    by true e y f = with_minus b bs (byte_is b 45 e) (unsigned_number bs) (unsigned_is bs)
-    by false e true f = with_plus b bs (byte_is b 43 f) (unsigned_number bs) (unsigned_is bs)
-    by false e false f = with_none b bs (other_byte b 45 e) (other_byte b 43 f) (unsigned_number (b ∷ bs)) (unsigned_is (b ∷ bs))
+    by true e y f = with_minus b bs (eqb-true b 45 e) (unsigned_number bs) (unsigned_is bs)
+    by false e true f = with_plus b bs (eqb-true b 43 f) (unsigned_number bs) (unsigned_is bs)
+    by false e false f = with_none b bs (eqb-false b 45 e) (eqb-false b 43 f) (unsigned_number (b ∷ bs)) (unsigned_is (b ∷ bs))
 
 -- ---- blanks around a word
 
