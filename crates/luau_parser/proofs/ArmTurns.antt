@@ -1,10 +1,9 @@
 -- The arms of an `if`, by turns.
-use Rattle.std.proofs.Common.{◌≡◌, ◌≤◌, ◌<◌, ◌+◌, ◌-◌, ℕ, suc, max, List, [], ◌∷◌, ◌++◌, refl, sym, ap, ◌∙◌, subst, arith, Option, Some, None, Result, Ok, Err}
+use Rattle.std.proofs.Common.{◌≡◌, ◌≤◌, ◌<◌, ◌+◌, ◌-◌, ℕ, max, List, [], ◌∷◌, ◌++◌, refl, sym, ap, ◌∙◌, subst, arith, Option, Some, None, Ok, Err}
 use Rattle.std.proofs.lemmas.List.{append_assoc}
 use Rattle.syntax_tree.specs.declared.token.Token.{Token}
 use Rattle.syntax_tree.specs.declared.token.TokenKind.TheVariants as token
 use Rattle.syntax_tree.specs.declared.tree.Arm.{Arm}
-use Rattle.syntax_tree.specs.declared.tree.Expr.{Expr}
 use Rattle.syntax_tree.specs.declared.tree.Stat.{Stat}
 use Rattle.syntax_tree.specs.declared.tree.StatKind as stat
 use Rattle.syntax_tree.specs.Grammar.{IsExpr, IsBlock, IsStat, IsArms, if_stat, last_arm, else_arm, more_arms}
@@ -17,21 +16,20 @@ use Rattle.parse_steps.specs.Classes.{opening}
 use Rattle.parse_steps.specs.Items as item
 use Rattle.parse_steps.specs.Items.{Item, depth, expression}
 use Rattle.parse_steps.specs.Steps.{most, Leads, here}
-use Rattle.parse_steps.specs.Turns.{Turn, turn, stops, stays, takes, word_or}
-use Rattle.luau_parser.specs.declared.fault.Fault.{Fault}
-use Rattle.luau_parser.specs.declared.parts.Part.{Part}
-use Rattle.luau_parser.specs.declared.parts.Block.{Block}
+use Rattle.parse_steps.specs.Turns.{turn, stops, takes, word_or}
+use Rattle.expression_parser.specs.declared.fault.Fault.{Fault}
+use Rattle.expression_parser.specs.declared.parts.Part.{Part}
+use Rattle.expression_parser.specs.declared.parts.Block.{Block}
 use Rattle.luau_parser.specs.declared.parts.Arms.{Arms}
 use Rattle.luau_parser.specs.declared.parts.Guarded.{Guarded}
 use Rattle.luau_parser.specs.declared.parts.Otherwise.{Otherwise}
-use Rattle.luau_parser.specs.declared.parts.Statement.{Statement}
-use Rattle.luau_parser.specs.Reading.{Fails, FindsBlock, FindsWord}
+use Rattle.expression_parser.specs.Reading.{FindsBlock, FindsWord}
 use Rattle.luau_parser.specs.Statements.{FindsStat, FindsArms, IsGuarded, FindsGuarded, IsOtherwise, FindsOtherwise}
-use Rattle.luau_parser.proofs.Leading.{then_leads, then_fails, nest_to, staying, taking}
-use Rattle.luau_parser.proofs.SameTurns.{same_leads, same_fails}
-use Rattle.luau_parser.proofs.WordTurns.{at_word, no_word}
-use Rattle.luau_parser.proofs.Sequences.{Stack, Passes, Refuses, Turns, shallow, then_passes, then_refuses, refuses_first, turns_pass, turns_refuse}
-use Rattle.luau_parser.proofs.NodeStatements.{OpensNode, faulty_part, whole_node}
+use Rattle.expression_parser.proofs.Leading.{then_leads, then_fails, nest_to, taking}
+use Rattle.expression_parser.proofs.SameTurns.{same_leads, same_fails}
+use Rattle.expression_parser.proofs.WordTurns.{at_word, no_word}
+use Rattle.luau_parser.proofs.Sequences.{Stack, Refuses, Turns, then_passes, then_refuses, refuses_first, turns_pass, turns_refuse}
+use Rattle.luau_parser.proofs.NodeStatements.{OpensNode, whole_node}
 use Rattle.luau_parser.proofs.StatementTurns.{FindsExpr, expression_word, block_word, expression_passes, block_passes}
 
 abbrev pub arm_parts : Stack

@@ -16,11 +16,11 @@ use Rattle.parse_steps.specs.Items.{Item, PrefixUse, in_expression, first_target
 use Rattle.parse_steps.specs.Steps.{most, InTime, Leads}
 use Rattle.parse_steps.specs.Turns.{turn, stops, takes, prefix_turn, suffix_turn, name_turn, next_reach}
 use Rattle.parse_steps.proofs.ForwardAssignments.{is_target}
-use Rattle.luau_parser.specs.declared.fault.Fault.TheVariants as fault
-use Rattle.luau_parser.specs.Reading.{Fails}
-use Rattle.luau_parser.proofs.Leading.{staying, taking, stuck_here, deep_here}
-use Rattle.luau_parser.proofs.SuffixTurns.{in_time}
-use Rattle.luau_parser.proofs.WordTurns.{no_word, no_name}
+use Rattle.expression_parser.specs.declared.fault.Fault.TheVariants as fault
+use Rattle.expression_parser.specs.Reading.{Fails}
+use Rattle.expression_parser.proofs.Leading.{staying, taking, stuck_here, deep_here}
+use Rattle.expression_parser.proofs.SuffixTurns.{in_time}
+use Rattle.expression_parser.proofs.WordTurns.{no_word, no_name}
 
 -- ---- behind a prefix
 

@@ -16,12 +16,12 @@ use Rattle.parse_steps.specs.Items as item
 use Rattle.parse_steps.specs.Items.{Item, depth}
 use Rattle.parse_steps.specs.Steps.{most, Leads, here}
 use Rattle.parse_steps.specs.Turns.{block_turn}
-use Rattle.luau_parser.specs.declared.fault.Fault.{Fault}
+use Rattle.expression_parser.specs.declared.fault.Fault.{Fault}
 use Rattle.luau_parser.specs.declared.parts.Statement.{Statement}
 use Rattle.luau_parser.specs.declared.parts.Step.TheVariants as step
-use Rattle.luau_parser.specs.Reading.{FindsBlock}
+use Rattle.expression_parser.specs.Reading.{FindsBlock}
 use Rattle.luau_parser.specs.Statements.{FindsStat, FindsStep, IsBehindSemicolon}
-use Rattle.luau_parser.proofs.Leading.{then_leads, then_fails, staying, nest_to}
+use Rattle.expression_parser.proofs.Leading.{then_leads, then_fails, staying, nest_to}
 use Rattle.luau_parser.proofs.LastTurns.{ends_of_opening, stat_ends}
 use Rattle.luau_parser.proofs.OneTree.{stat_form, form_t_is, form_t_some}
 

@@ -15,7 +15,7 @@ use Rattle.syntax_tree.specs.Words.{ends_block}
 use Rattle.syntax_tree.specs.Grammar as grammar
 use Rattle.syntax_tree.specs.Grammar.{PrefixEnd, in_target, in_call, in_paren, IsExpr, IsLevel, IsConcat, IsUnary, IsPow, IsCast, IsSimple, IsPrefix, IsStat, IsBlock, IsLast, IsArgs}
 use Rattle.type_skip.proofs.OneType.{one_optional}
-use Rattle.luau_parser.proofs.Binds.{bind_starts}
+use Rattle.expression_parser.proofs.Determined.{bind_starts}
 use Rattle.luau_parser.proofs.OneTree.{none_some, form_t, form_t_is, form_t_some, form_b, form_b_is, same_form_l, part_form, stat_form, end_number, first_target, one_prefix, one_last}
 use Rattle.luau_parser.proofs.ExampleTrees.{a_name, a_call, name_simple, name_expr, cast_power, unary_products, products_sums, sums_expr}
 use Rattle.luau_parser.specs.Examples.{tokens, HasNone, Trees, Refusals, one, a, b, c}

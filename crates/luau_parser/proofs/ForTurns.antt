@@ -1,5 +1,5 @@
 -- Both kinds of `for`, by turns.
-use Rattle.std.proofs.Common.{◌≡◌, ◌≤◌, ◌<◌, ◌+◌, ◌-◌, ℕ, suc, max, List, ◌∷◌, refl, sym, ap, ◌∙◌, subst, arith, Option, Some, None, Result, Ok, Err}
+use Rattle.std.proofs.Common.{◌≡◌, ◌<◌, ◌+◌, ◌-◌, ℕ, max, List, ◌∷◌, refl, sym, ap, ◌∙◌, subst, arith, Some, None, Ok, Err}
 use Rattle.syntax_tree.specs.declared.token.Token.{Token}
 use Rattle.syntax_tree.specs.declared.token.TokenKind.TheVariants as token
 use Rattle.syntax_tree.specs.declared.tree.Expr.{Expr}
@@ -8,31 +8,30 @@ use Rattle.syntax_tree.specs.declared.tree.StatKind as stat
 use Rattle.syntax_tree.specs.Grammar.{IsStat, IsBlock, IsStep, num_for, gen_for}
 use Rattle.syntax_tree.specs.Grammar as grammar
 use Rattle.syntax_tree.specs.Nodes.{stat_at}
-use Rattle.syntax_tree.specs.Places.{kind_at, Has, Lacks}
+use Rattle.syntax_tree.specs.Places.{Has, Lacks}
 use Rattle.parse_steps.specs.declared.classes.Opening.TheVariants as opens
 use Rattle.parse_steps.specs.declared.words.Word.TheVariants as words
 use Rattle.parse_steps.specs.Classes.{opening}
 use Rattle.parse_steps.specs.Items as item
 use Rattle.parse_steps.specs.Items.{Item, depth, expression}
-use Rattle.parse_steps.specs.Steps.{most, Leads}
+use Rattle.parse_steps.specs.Steps.{most}
 use Rattle.parse_steps.specs.Turns.{stays, takes}
-use Rattle.luau_parser.specs.declared.fault.Fault.{Fault}
-use Rattle.luau_parser.specs.declared.parts.Part.{Part}
-use Rattle.luau_parser.specs.declared.parts.Parts.{Parts}
-use Rattle.luau_parser.specs.declared.parts.Block.{Block}
-use Rattle.luau_parser.specs.declared.parts.Bind.{Bind}
-use Rattle.luau_parser.specs.declared.parts.Binds.{Binds}
+use Rattle.expression_parser.specs.declared.fault.Fault.{Fault}
+use Rattle.expression_parser.specs.declared.parts.Part.{Part}
+use Rattle.expression_parser.specs.declared.parts.Parts.{Parts}
+use Rattle.expression_parser.specs.declared.parts.Block.{Block}
+use Rattle.expression_parser.specs.declared.parts.Bind.{Bind}
+use Rattle.expression_parser.specs.declared.parts.Binds.{Binds}
 use Rattle.luau_parser.specs.declared.parts.Count.{Count}
 use Rattle.luau_parser.specs.declared.parts.Limits.{Limits}
 use Rattle.luau_parser.specs.declared.parts.Walk.{Walk}
-use Rattle.luau_parser.specs.declared.parts.Statement.{Statement}
-use Rattle.luau_parser.specs.Reading.{Fails, FindsBlock, FindsList, FindsWord, FindsBind, FindsBinds}
+use Rattle.expression_parser.specs.Reading.{FindsBlock, FindsList, FindsWord, FindsBind, FindsBinds}
 use Rattle.luau_parser.specs.Statements.{FindsStat, FindsLimits, FindsCount, FindsWalk}
-use Rattle.luau_parser.proofs.Leading.{then_leads, then_fails, nest_to, staying, taking}
-use Rattle.luau_parser.proofs.WordTurns.{at_word, no_word}
+use Rattle.expression_parser.proofs.Leading.{then_leads, then_fails, nest_to, staying, taking}
+use Rattle.expression_parser.proofs.WordTurns.{at_word, no_word}
 use Rattle.luau_parser.proofs.Sequences.{Stack, Passes, Refuses, Turns, then_passes, then_refuses, refuses_first, turns_pass, turns_refuse}
 use Rattle.luau_parser.proofs.NodeStatements.{OpensNode, faulty_part, whole_node}
-use Rattle.luau_parser.proofs.StatementTurns.{FindsExpr, an_expression, expression_word, block_word, expression_passes, block_passes, faulty_block, block_without}
+use Rattle.luau_parser.proofs.StatementTurns.{FindsExpr, an_expression, expression_word, block_word, expression_passes, block_passes}
 
 -- ---- "do" block "end"
 

@@ -1,5 +1,5 @@
 -- The name of a function, member by member.
-use Rattle.std.proofs.Common.{◌≡◌, ◌≤◌, ◌<◌, ◌+◌, ℕ, List, [], ◌∷◌, refl, sym, ap, ◌∙◌, subst, arith, Ok, Err}
+use Rattle.std.proofs.Common.{◌≡◌, ◌≤◌, ◌<◌, ◌+◌, ℕ, List, [], ◌∷◌, refl, sym, ap, ◌∙◌, subst, arith, Ok, Err, inl, inr}
 use Rattle.byte_text.specs.declared.StrId.{StrId}
 use Rattle.syntax_tree.specs.declared.token.Token.{Token}
 use Rattle.syntax_tree.specs.declared.token.TokenKind.TheVariants as token
@@ -14,12 +14,14 @@ use Rattle.parse_steps.specs.Items as item
 use Rattle.parse_steps.specs.Items.{Item, depth}
 use Rattle.parse_steps.specs.Steps.{most, Leads}
 use Rattle.parse_steps.specs.Turns.{turn, stays, takes, word_or, next_reach}
-use Rattle.luau_parser.specs.declared.fault.Fault.{Fault}
-use Rattle.luau_parser.specs.declared.fault.Fault.TheVariants as fault
-use Rattle.luau_parser.specs.Reading.{FindsName}
-use Rattle.luau_parser.specs.Statements.{FindsFunctionName}
-use Rattle.luau_parser.proofs.Leading.{then_leads, then_fails, staying, taking, deep_here, nest_to, place_to}
-use Rattle.luau_parser.proofs.WordTurns.{no_word}
+use Rattle.expression_parser.specs.declared.fault.Fault.{Fault}
+use Rattle.expression_parser.specs.declared.fault.Fault.TheVariants as fault
+use Rattle.expression_parser.specs.declared.parts.Part.{Part}
+use Rattle.expression_parser.specs.Reading.{FindsName}
+use Rattle.luau_parser.specs.declared.parts.FunctionName.{FunctionName}
+use Rattle.luau_parser.specs.Statements.{FindsFunctionName, FindsMemberName, IsMethodName}
+use Rattle.expression_parser.proofs.Leading.{then_leads, then_fails, staying, taking, deep_here, nest_to, place_to}
+use Rattle.expression_parser.proofs.WordTurns.{no_word}
 
 -- ---- the turns
 
@@ -66,17 +68,17 @@ first_name ts room b x e found node = record {
 
 -- ---- a member
 
-pub deep_name : (ts : List Token) (room b : ℕ) (e : Expr) (nest end : ℕ) → MembersSoFar ts room b e nest end → Has ts end token.Dot
+deep_name : (ts : List Token) (room b : ℕ) (e : Expr) (nest end : ℕ) → MembersSoFar ts room b e nest end → Has ts end token.Dot
     → room ≤ nest → FindsFunctionName ts room b (Err (fault.TooDeep end))
 deep_name ts room b e nest end so_far dot le = λ v k deep. then_fails (so_far.runs k deep) (fault.TooDeep end)
     (deep_here (ap (λ t. turn t nest item.members k) dot) (omega (arith, le, deep)))
 
-pub faulty_member : (ts : List Token) (room b : ℕ) (e : Expr) (nest end : ℕ) (f : Fault) → MembersSoFar ts room b e nest end
+faulty_member : (ts : List Token) (room b : ℕ) (e : Expr) (nest end : ℕ) (f : Fault) → MembersSoFar ts room b e nest end
     → Has ts end token.Dot → nest < room → FindsName ts (end + 1) (Err f) → FindsFunctionName ts room b (Err f)
 faulty_member ts room b e nest end f so_far dot less found = λ v k deep. then_fails
     (then_leads (so_far.runs k deep) (member_leads ts end nest room k dot less deep)) f (found nest (item.wrap ∷ item.members ∷ k))
 
-pub next_member : (ts : List Token) (room b : ℕ) (e more : Expr) (x : StrId) (nest end : ℕ) → MembersSoFar ts room b e nest end
+next_member : (ts : List Token) (room b : ℕ) (e more : Expr) (x : StrId) (nest end : ℕ) → MembersSoFar ts room b e nest end
     → Has ts end token.Dot → nest < room → FindsName ts (end + 1) (Ok x) → more ≡ expr_at ts b (expr.Member e x)
     → MembersSoFar ts room b more (nest + 1) (end + 2)
 next_member ts room b e more x nest end so_far dot less found node = record {
@@ -97,7 +99,7 @@ next_member ts room b e more x nest end so_far dot less found node = record {
 abbrev Named : List Token → (room b : ℕ) → Expr → List StrId → (nest end : ℕ) → Type 0
 Named ts room b e added nest end = FindsFunctionName ts room b (Ok (record { expr = e; added = added; nest = nest; end = end }))
 
-pub same_name : (ts : List Token) (room b : ℕ) (d e : Expr) (xs ys : List StrId) (m n i j : ℕ) → d ≡ e → xs ≡ ys → m ≡ n → i ≡ j
+same_name : (ts : List Token) (room b : ℕ) (d e : Expr) (xs ys : List StrId) (m n i j : ℕ) → d ≡ e → xs ≡ ys → m ≡ n → i ≡ j
     → Named ts room b e ys n j → Named ts room b d xs m i
 same_name ts room b d e xs ys m n i j node added nest end found =
     let ends = subst (λ (h : ℕ). Named ts room b e ys n h) (sym end) found in
@@ -114,17 +116,17 @@ name_found ts room b e nest end added so_far no_dot no_colon none =
       λ v k deep. then_leads (so_far.runs k deep) (no_more_members ts end nest k no_dot no_colon),
     )
 
-pub deep_method_name : (ts : List Token) (room b : ℕ) (e : Expr) (nest end : ℕ) → MembersSoFar ts room b e nest end → Has ts end token.Colon
+deep_method_name : (ts : List Token) (room b : ℕ) (e : Expr) (nest end : ℕ) → MembersSoFar ts room b e nest end → Has ts end token.Colon
     → room ≤ nest → FindsFunctionName ts room b (Err (fault.TooDeep end))
 deep_method_name ts room b e nest end so_far colon le = λ v k deep. then_fails (so_far.runs k deep) (fault.TooDeep end)
     (deep_here (ap (λ t. turn t nest item.members k) colon) (omega (arith, le, deep)))
 
-pub faulty_method_name : (ts : List Token) (room b : ℕ) (e : Expr) (nest end : ℕ) (f : Fault) → MembersSoFar ts room b e nest end
+faulty_method_name : (ts : List Token) (room b : ℕ) (e : Expr) (nest end : ℕ) (f : Fault) → MembersSoFar ts room b e nest end
     → Has ts end token.Colon → nest < room → FindsName ts (end + 1) (Err f) → FindsFunctionName ts room b (Err f)
 faulty_method_name ts room b e nest end f so_far colon less found = λ v k deep. then_fails
     (then_leads (so_far.runs k deep) (method_leads ts end nest room k colon less deep)) f (found nest (item.wrap ∷ k))
 
-pub method_name_found : (ts : List Token) (room b : ℕ) (e more : Expr) (x : StrId) (nest end : ℕ) (added : List StrId)
+method_name_found : (ts : List Token) (room b : ℕ) (e more : Expr) (x : StrId) (nest end : ℕ) (added : List StrId)
     → MembersSoFar ts room b e nest end → Lacks ts end token.Dot → Has ts end token.Colon → nest < room → FindsName ts (end + 1) (Ok x)
     → more ≡ expr_at ts b (expr.Member e x) → added ≡ self_name ∷ [] → FindsFunctionName ts room b
     (Ok (record { expr = more; added = added; nest = nest + 1; end = end + 2 }))
@@ -141,3 +143,36 @@ method_name_found ts room b e more x nest end added so_far no_dot colon less fou
           (then_leads (found.1 nest (item.wrap ∷ k)) (staying refl)) in
           nest_to (omega arith) (place_to (omega arith) (then_leads (so_far.runs k deep) last)),
     )
+
+-- ---- the same, by what a further name says
+
+pub next_name : (ts : List Token) (room b : ℕ) (left p : Part) → MembersSoFar ts room b left.expr left.nest left.end
+    → Has ts left.end token.Dot → FindsMemberName ts room b left (Ok p) → MembersSoFar ts room b p.expr p.nest p.end
+next_name ts room b left p so_far dot found =
+    let next = next_member ts room b left.expr p.expr found.1.0 left.nest left.end so_far dot found.0 found.1.1 found.1.2 in
+    subst (λ (n : ℕ). MembersSoFar ts room b p.expr n p.end) (sym found.2)
+    (subst (λ (j : ℕ). MembersSoFar ts room b p.expr (left.nest + 1) j) (sym found.3) next)
+
+pub no_next_name : (ts : List Token) (room b : ℕ) (left : Part) (f : Fault) → MembersSoFar ts room b left.expr left.nest left.end
+    → Has ts left.end token.Dot → FindsMemberName ts room b left (Err f) → FindsFunctionName ts room b (Err f)
+no_next_name ts room b left f so_far dot (inl (le, deep)) =
+    subst (λ (g : Fault). FindsFunctionName ts room b (Err g)) (sym deep)
+    (deep_name ts room b left.expr left.nest left.end so_far dot le)
+no_next_name ts room b left f so_far dot (inr (less, found)) =
+    faulty_member ts room b left.expr left.nest left.end f so_far dot less found
+
+pub no_method : (ts : List Token) (room b : ℕ) (left : Part) (f : Fault) → MembersSoFar ts room b left.expr left.nest left.end
+    → Has ts left.end token.Colon → FindsMemberName ts room b left (Err f) → FindsFunctionName ts room b (Err f)
+no_method ts room b left f so_far colon (inl (le, deep)) =
+    subst (λ (g : Fault). FindsFunctionName ts room b (Err g)) (sym deep)
+    (deep_method_name ts room b left.expr left.nest left.end so_far colon le)
+no_method ts room b left f so_far colon (inr (less, found)) =
+    faulty_method_name ts room b left.expr left.nest left.end f so_far colon less found
+
+pub whole_method : (ts : List Token) (room b : ℕ) (left p : Part) (n : FunctionName)
+    → MembersSoFar ts room b left.expr left.nest left.end → Lacks ts left.end token.Dot → Has ts left.end token.Colon
+    → FindsMemberName ts room b left (Ok p) → IsMethodName p n → FindsFunctionName ts room b (Ok n)
+whole_method ts room b left p n so_far no_dot colon found made =
+    same_name ts room b n.expr p.expr n.added (self_name ∷ []) n.nest (left.nest + 1) n.end (left.end + 2) made.0 made.1
+    (made.2 ∙ found.2) (made.3 ∙ found.3) (method_name_found ts room b left.expr p.expr found.1.0 left.nest left.end
+    (self_name ∷ []) so_far no_dot colon found.0 found.1.1 found.1.2 refl)

@@ -15,13 +15,13 @@ use Rattle.parse_steps.specs.Items as item
 use Rattle.parse_steps.specs.Items.{Item, depth}
 use Rattle.parse_steps.specs.Steps.{most, Leads}
 use Rattle.parse_steps.specs.Turns.{turn, takes, next_reach}
-use Rattle.luau_parser.specs.declared.fault.Fault.{Fault}
-use Rattle.luau_parser.specs.declared.fault.Fault.TheVariants as fault
-use Rattle.luau_parser.specs.declared.parts.Function.{Function}
+use Rattle.expression_parser.specs.declared.fault.Fault.{Fault}
+use Rattle.expression_parser.specs.declared.fault.Fault.TheVariants as fault
+use Rattle.expression_parser.specs.declared.parts.Function.{Function}
 use Rattle.luau_parser.specs.declared.parts.FunctionName.{FunctionName}
-use Rattle.luau_parser.specs.Reading.{FindsName, FindsBody}
-use Rattle.luau_parser.specs.Statements.{FindsStat, FindsFunctionName}
-use Rattle.luau_parser.proofs.Leading.{then_leads, then_fails, staying, taking, deep_here, nest_to, place_to}
+use Rattle.expression_parser.specs.Reading.{FindsName, FindsBody}
+use Rattle.luau_parser.specs.Statements.{FindsStat, FindsFunctionName, assigns_function}
+use Rattle.expression_parser.proofs.Leading.{then_leads, then_fails, staying, taking, deep_here, nest_to, place_to}
 use Rattle.luau_parser.proofs.LocalTurns.{opens_local}
 
 -- ---- "local" "function" Name body
@@ -124,41 +124,16 @@ pub function_without_body : (ts : List Token) (room i : ℕ) (n : FunctionName) 
 function_without_body ts room i n f stands less name function = λ v k deep. then_fails (to_function ts room i v k n stands less name deep) f
     (function 0 (around_function n.nest v k) (omega (arith, less, deep)))
 
--- the node of the assignment
-pub record AssignsFunction (ts : List Token) (i : ℕ) (n : FunctionName) (f : Function) (s : Stat) : Type 0 where
-  pub targets : List Expr
-  pub values : List Expr
-  pub value : Expr
-  pub func : FuncBody
-  pub target : targets ≡ n.expr ∷ []
-  pub made : func ≡ function_at ts i f.params f.vararg f.stats
-  pub holds : value ≡ expr_at ts i (expr.Function func)
-  pub one : values ≡ value ∷ []
-  pub node : s ≡ stat_at ts i (stat.Assign targets values)
-
-assigned : (ts : List Token) (i : ℕ) (n : FunctionName) (f : Function) (s : Stat) (xs : List StrId) → f.params ≡ n.added ++ xs
-    → AssignsFunction ts i n f s
-    → s ≡ stat_at ts i (stat.Assign (n.expr ∷ []) (expr_at ts i (expr.Function (function_at ts i (n.added ++ xs) f.vararg f.stats)) ∷ []))
-assigned ts i n f s xs params a =
-    let func : a.func ≡ function_at ts i (n.added ++ xs) f.vararg f.stats = a.made ∙ ap
-    (λ (ys : List StrId). function_at ts i ys f.vararg f.stats) params in
-    let value : a.value ≡ expr_at ts i (expr.Function (function_at ts i (n.added ++ xs) f.vararg f.stats)) = a.holds ∙ ap
-    (λ (g : FuncBody). expr_at ts i (expr.Function g)) func in
-    let values : a.values ≡ expr_at ts i (expr.Function (function_at ts i (n.added ++ xs) f.vararg f.stats)) ∷ [] = a.one ∙ ap
-    (λ (e : Expr). e ∷ []) value in
-    a.node ∙ ap (λ (es : List Expr). stat_at ts i (stat.Assign es a.values)) a.target ∙ ap
-    (λ (es : List Expr). stat_at ts i (stat.Assign (n.expr ∷ []) es)) values
-
 pub function_found : (ts : List Token) (room i : ℕ) (n : FunctionName) (f : Function) (s : Stat) (nest : ℕ) → Has ts i token.Function
     → 0 < room → FindsFunctionName ts room (i + 1) (Ok n) → FindsBody ts (room - 1) n.end n.added (Ok f)
-    → AssignsFunction ts i n f s → nest ≡ max n.nest (f.nest + 1) → FindsStat ts room i (Ok (record { stat = s; nest = nest; end = f.end }))
+    → s ≡ assigns_function ts i n.expr f → nest ≡ max n.nest (f.nest + 1) → FindsStat ts room i (Ok (record { stat = s; nest = nest; end = f.end }))
 function_found ts room i n f s nest stands less name function node deepest =
     let xs : List StrId = function.0.0.0 in
     let value : Expr = expr_at ts i (expr.Function (function_at ts i (n.added ++ xs) f.vararg f.stats)) in
     let good : IsStat ts most i (stat_at ts i (stat.Assign (n.expr ∷ []) (value ∷ []))) f.end = function_stat i n.end f.end n.expr n.added
     xs f.vararg f.stats stands name.0.0 function.0.0.1 in (
       (
-        subst (λ (y : Stat). IsStat ts most i y f.end) (sym (assigned ts i n f s xs function.0.0.2 node)) good,
+        subst (λ (y : Stat). IsStat ts most i y f.end) (sym (node ∙ ap (λ (ys : List StrId). stat_at ts i (stat.Assign (n.expr ∷ []) (expr_at ts i (expr.Function (function_at ts i ys f.vararg f.stats)) ∷ []))) function.0.0.2)) good,
         (omega (arith, less, deepest, name.0.1.0, function.0.1.0), omega (arith, name.0.1.1, function.0.1.1)),
       ),
       λ v k deep.

@@ -12,11 +12,11 @@ use Rattle.parse_steps.specs.Items as item
 use Rattle.parse_steps.specs.Items.{Item, expression}
 use Rattle.parse_steps.specs.Steps.{Leads}
 use Rattle.parse_steps.specs.Turns.{turn}
-use Rattle.luau_parser.specs.declared.fault.Fault.{Fault}
-use Rattle.luau_parser.specs.declared.parts.Parts.{Parts}
-use Rattle.luau_parser.specs.Reading.{FindsList}
+use Rattle.expression_parser.specs.declared.fault.Fault.{Fault}
+use Rattle.expression_parser.specs.declared.parts.Parts.{Parts}
+use Rattle.expression_parser.specs.Reading.{FindsList}
 use Rattle.luau_parser.specs.Statements.{may_end, FindsLast, FindsLastEnd}
-use Rattle.luau_parser.proofs.Leading.{then_leads, then_fails, taking, nest_to}
+use Rattle.expression_parser.proofs.Leading.{then_leads, then_fails, taking, nest_to}
 use Rattle.luau_parser.proofs.LastTurns.{bare_ends, bare_fails, to_values, over, not_over}
 
 -- ---- `break`

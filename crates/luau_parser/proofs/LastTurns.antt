@@ -13,13 +13,13 @@ use Rattle.parse_steps.specs.Items as item
 use Rattle.parse_steps.specs.Items.{Item, expression}
 use Rattle.parse_steps.specs.Steps.{Leads}
 use Rattle.parse_steps.specs.Turns.{stays, takes, ending_turn, last_turn, return_turn}
-use Rattle.luau_parser.specs.declared.fault.Fault.{Fault}
-use Rattle.luau_parser.specs.declared.fault.Fault.TheVariants as fault
-use Rattle.luau_parser.specs.Reading.{Fails}
+use Rattle.expression_parser.specs.declared.fault.Fault.{Fault}
+use Rattle.expression_parser.specs.declared.fault.Fault.TheVariants as fault
+use Rattle.expression_parser.specs.Reading.{Fails}
 use Rattle.luau_parser.specs.Statements.{may_end}
-use Rattle.luau_parser.proofs.Leading.{then_leads, then_fails, staying, taking, stuck_here}
-use Rattle.luau_parser.proofs.SameTurns.{same_fails}
-use Rattle.luau_parser.proofs.WordTurns.{at_word, no_word}
+use Rattle.expression_parser.proofs.Leading.{then_leads, then_fails, staying, taking, stuck_here}
+use Rattle.expression_parser.proofs.SameTurns.{same_fails}
+use Rattle.expression_parser.proofs.WordTurns.{at_word, no_word}
 
 -- ---- what a token begins as the first of a statement
 

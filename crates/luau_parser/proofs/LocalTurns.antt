@@ -13,14 +13,14 @@ use Rattle.parse_steps.specs.Items as item
 use Rattle.parse_steps.specs.Items.{Item, depth, expression}
 use Rattle.parse_steps.specs.Steps.{most, Leads}
 use Rattle.parse_steps.specs.Turns.{turn, stays, takes, next_reach}
-use Rattle.luau_parser.specs.declared.fault.Fault.{Fault}
-use Rattle.luau_parser.specs.declared.parts.Bind.{Bind}
-use Rattle.luau_parser.specs.declared.parts.Binds.{Binds}
-use Rattle.luau_parser.specs.declared.parts.Parts.{Parts}
-use Rattle.luau_parser.specs.Reading.{FindsBind, FindsBinds, FindsList}
+use Rattle.expression_parser.specs.declared.fault.Fault.{Fault}
+use Rattle.expression_parser.specs.declared.parts.Bind.{Bind}
+use Rattle.expression_parser.specs.declared.parts.Binds.{Binds}
+use Rattle.expression_parser.specs.declared.parts.Parts.{Parts}
+use Rattle.expression_parser.specs.Reading.{FindsBind, FindsBinds, FindsList}
 use Rattle.luau_parser.specs.Statements.{FindsStat}
-use Rattle.luau_parser.proofs.Leading.{then_leads, then_fails, staying, taking, nest_to}
-use Rattle.luau_parser.proofs.WordTurns.{at_word, no_word}
+use Rattle.expression_parser.proofs.Leading.{then_leads, then_fails, staying, taking, nest_to}
+use Rattle.expression_parser.proofs.WordTurns.{at_word, no_word}
 
 -- the word `local` at place i, behind which no `function` stands
 pub record OpensLocal (ts : List Token) (i : ℕ) : Type 0 where

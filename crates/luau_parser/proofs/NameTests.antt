@@ -13,11 +13,11 @@ use Rattle.parse_steps.specs.Items.{Item, first_target}
 use Rattle.parse_steps.specs.Steps.{Leads}
 use Rattle.parse_steps.specs.Turns.{Turn, turn, stops, stays, takes, after_continue, after_type, after_export, named_stat, last_turn, type_items}
 use Rattle.parse_steps.specs.Turns as turns
-use Rattle.luau_parser.specs.declared.fault.Fault.{Fault}
-use Rattle.luau_parser.specs.Reading.{Fails}
+use Rattle.expression_parser.specs.declared.fault.Fault.{Fault}
+use Rattle.expression_parser.specs.Reading.{Fails}
 use Rattle.luau_parser.specs.Statements.{may_end, IsPlainName}
-use Rattle.luau_parser.proofs.Leading.{then_leads, staying, taking}
-use Rattle.luau_parser.proofs.SameTurns.{same_fails}
+use Rattle.expression_parser.proofs.Leading.{then_leads, staying, taking}
+use Rattle.expression_parser.proofs.SameTurns.{same_fails}
 use Rattle.luau_parser.proofs.LastTurns.{block_ends, over, not_over}
 
 -- a name that is taken

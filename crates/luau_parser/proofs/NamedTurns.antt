@@ -17,13 +17,13 @@ use Rattle.parse_steps.specs.Items.{Item, first_target, depth}
 use Rattle.parse_steps.specs.Classes as classes
 use Rattle.parse_steps.specs.Steps.{most, Leads}
 use Rattle.parse_steps.specs.Turns.{type_items}
-use Rattle.luau_parser.specs.declared.fault.Fault.{Fault}
-use Rattle.luau_parser.specs.declared.parts.Prefix.{Prefix}
+use Rattle.expression_parser.specs.declared.fault.Fault.{Fault}
+use Rattle.expression_parser.specs.declared.parts.Prefix.{Prefix}
 use Rattle.luau_parser.specs.declared.parts.Statement.{Statement}
 use Rattle.luau_parser.specs.declared.parts.Step.TheVariants as step
-use Rattle.luau_parser.specs.Reading.{FindsGenerics, FindsWord, FindsType, FindsName, FindsSuffixes, IsNamed, ending_of}
+use Rattle.expression_parser.specs.Reading.{FindsGenerics, FindsWord, FindsType, FindsName, FindsSuffixes, IsNamed, ending_of}
 use Rattle.luau_parser.specs.Statements.{may_end, FindsLastEnd, IsTypeRest, FindsTypeRest, FindsStep, FindsPrefixStat, IsPrefixRead, IsPlainName, IsBehindSemicolon}
-use Rattle.luau_parser.proofs.Leading.{then_leads, then_fails, staying, nest_to, place_to}
+use Rattle.expression_parser.proofs.Leading.{then_leads, then_fails, staying, nest_to, place_to}
 use Rattle.luau_parser.proofs.LastTurns.{stat_ends}
 use Rattle.luau_parser.proofs.NameTests.{name_begins, continue_ends, continue_goes_on, says_continue, same_number, type_begins, export_begins, name_there, type_there, says_type, says_export, plain_begins, says_no_type, says_no_continue}
 

@@ -1,5 +1,5 @@
 -- Statements whose node is around all their parts.
-use Rattle.std.proofs.Common.{◌≡◌, ◌≤◌, ◌<◌, ◌+◌, ◌-◌, ℕ, suc, max, List, ◌∷◌, refl, ap, ◌∙◌, arith}
+use Rattle.std.proofs.Common.{◌≡◌, ◌≤◌, ◌<◌, ◌+◌, ◌-◌, ℕ, max, List, ◌∷◌, refl, ap, ◌∙◌, arith}
 use Rattle.syntax_tree.specs.declared.token.Token.{Token}
 use Rattle.syntax_tree.specs.Places.{kind_at}
 use Rattle.parse_steps.specs.declared.classes.Opening.{Opening}
@@ -7,11 +7,10 @@ use Rattle.parse_steps.specs.Classes.{opening}
 use Rattle.parse_steps.specs.Items as item
 use Rattle.parse_steps.specs.Items.{Item, depth}
 use Rattle.parse_steps.specs.Steps.{most, Leads}
-use Rattle.parse_steps.specs.Turns.{Turn, turn, block_turn, node_turn}
-use Rattle.luau_parser.specs.declared.fault.Fault.{Fault}
-use Rattle.luau_parser.specs.declared.fault.Fault.TheVariants as fault
-use Rattle.luau_parser.specs.Reading.{Fails}
-use Rattle.luau_parser.proofs.Leading.{then_leads, then_fails, staying, taking, deep_here, nest_to}
+use Rattle.parse_steps.specs.Turns.{turn, block_turn, node_turn}
+use Rattle.expression_parser.specs.declared.fault.Fault.{Fault}
+use Rattle.expression_parser.specs.declared.fault.Fault.TheVariants as fault
+use Rattle.expression_parser.proofs.Leading.{then_leads, then_fails, staying, taking, deep_here, nest_to}
 use Rattle.luau_parser.proofs.Sequences.{Stack, Passes, Refuses}
 
 -- the word at place i opens a node around these parts

@@ -23,7 +23,7 @@ use Rattle.syntax_tree.specs.Operators.{OperatorLevel, ors, ands, comparisons, s
 use Rattle.syntax_tree.specs.Words.{continue_name, type_name, export_name, ends_block, ends_last, is_continue, opens_type, opens_suffix, opens_named, literal_of}
 use Rattle.syntax_tree.specs.Grammar.{last_bind, more_binds, in_paren, PrefixEnd, IsBind, IsBinds, IsExpr, IsList, IsLevel, IsOperations, IsOperand, IsConcat, IsRun, IsUnary, IsPow, IsCast, IsSimple, IsPieces, IsChoices, IsPrefix, IsSuffixes, IsArgs, IsTable, IsFields, IsField, IsBody, IsBlock, IsLast, IsStat, IsTargets, IsStep, IsArms, in_target, in_call, expression, last_expr, more_exprs, level, no_operation, operation, or_operand, and_operand, comparison_operand, sum_operand, product_operand, no_concat, concat, last_of_run, more_of_run, no_unary, unary, no_pow, pow, no_cast, cast, literal, interp, function, constructor, prefix, choice, last_piece, more_pieces, last_choice, more_choices, name, paren, no_suffix, member, index, call, method, no_args, args, table_arg, text_arg, table, no_field, last_field, more_fields, keyed, named, item, body, no_stat, typing_stat, more_stats, last_stat, bare_return, return, break, continue, assign, compound, call_stat, do_stat, while_stat, repeat_stat, if_stat, num_for, gen_for, function_stat, local_function, bare_local, local, last_target, more_targets, no_step, step, last_arm, else_arm, more_arms}
 use Rattle.type_skip.proofs.OneType.{clash, clash_back, misses, misses_back, next, after_next, one_type, one_generics, one_optional}
-use Rattle.luau_parser.proofs.Binds.{bind_starts, tags, texts, names, one_typing, one_bind, one_binds, one_param_list, one_type_stat, one_function_name}
+use Rattle.expression_parser.proofs.Determined.{bind_starts, tags, texts, names, one_typing, one_bind, one_binds, one_param_list, one_type_stat, one_function_name}
 
 -- ---- what cannot be
 

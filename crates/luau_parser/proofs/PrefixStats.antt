@@ -10,15 +10,15 @@ use Rattle.syntax_tree.specs.Places.{Has}
 use Rattle.parse_steps.specs.Items as item
 use Rattle.parse_steps.specs.Items.{Item, first_target, depth}
 use Rattle.parse_steps.specs.Steps.{most, Leads}
-use Rattle.luau_parser.specs.declared.fault.Fault.{Fault}
-use Rattle.luau_parser.specs.declared.fault.Fault.TheVariants as fault
-use Rattle.luau_parser.specs.declared.parts.Part.{Part}
-use Rattle.luau_parser.specs.declared.parts.Prefix.{Prefix}
+use Rattle.expression_parser.specs.declared.fault.Fault.{Fault}
+use Rattle.expression_parser.specs.declared.fault.Fault.TheVariants as fault
+use Rattle.expression_parser.specs.declared.parts.Part.{Part}
+use Rattle.expression_parser.specs.declared.parts.Prefix.{Prefix}
 use Rattle.luau_parser.specs.declared.parts.Statement.{Statement}
-use Rattle.luau_parser.specs.declared.parts.Ending.TheVariants as endings
-use Rattle.luau_parser.specs.Reading.{Fails, FindsParenthesis, FindsSuffixes, ending_of}
+use Rattle.expression_parser.specs.declared.parts.Ending.TheVariants as endings
+use Rattle.expression_parser.specs.Reading.{Fails, FindsParenthesis, FindsSuffixes, ending_of}
 use Rattle.luau_parser.specs.Statements.{IsPrefixRead, FindsPrefixStat, FindsStat}
-use Rattle.luau_parser.proofs.Leading.{then_leads, then_fails, staying}
+use Rattle.expression_parser.proofs.Leading.{then_leads, then_fails, staying}
 use Rattle.luau_parser.proofs.AssignmentTurns.{to_paren_stat, behind_call, only_paren}
 use Rattle.luau_parser.proofs.TargetBeginnings.{begun_paren}
 

@@ -1,13 +1,12 @@
 -- From the reading of a script to the answers of `parse`.
-use Rattle.std.proofs.Common.{◌≡◌, ◌≢◌, ◌≤◌, ◌<◌, ◌+◌, ℕ, zero, suc, max, List, [], ◌∷◌, length, Option, Some, None, Result, Ok, Err, ◌⊎◌, inl, inr, refl, sym, ap, ◌∙◌, subst, arith}
-use Rattle.std.specs.Prelude.{unwrap_or, option_map, slice_get}
+use Rattle.std.proofs.Common.{◌≡◌, ◌≢◌, ◌≤◌, ◌<◌, ◌+◌, ℕ, zero, suc, List, [], ◌∷◌, length, Option, Some, None, Ok, Err, ◌⊎◌, inl, inr, refl, sym, ap, ◌∙◌, subst, arith}
+use Rattle.std.specs.Prelude.{unwrap_or, option_map}
 use Rattle.std.proofs.lemmas.Bool.{cases_lt}
 use Rattle.syntax_tree.specs.declared.token.Token.{Token}
 use Rattle.syntax_tree.specs.declared.token.TokenKind.{TokenKind}
 use Rattle.syntax_tree.specs.declared.token.TokenKind.TheVariants as token
-use Rattle.syntax_tree.specs.declared.tree.Stat.{Stat}
 use Rattle.syntax_tree.specs.declared.tree.Tree.{Tree}
-use Rattle.syntax_tree.specs.Calls.{OpensLate, OpensCall, IsLateCall, Ambiguous}
+use Rattle.syntax_tree.specs.Calls.{OpensCall, Ambiguous}
 use Rattle.syntax_tree.specs.Derivations.{IsChunk, main_function, Derives}
 use Rattle.syntax_tree.specs.Nest.{nest, nest_func}
 use Rattle.syntax_tree.specs.Numbers.{numbered}
@@ -16,19 +15,17 @@ use Rattle.type_skip.specs.Reading.{SameBelow}
 use Rattle.type_skip.specs.Refusals.{offset_at, end_of, BeginsAs}
 use Rattle.type_skip.proofs.Passing.{same_kinds, there_or_past}
 use Rattle.parse_steps.specs.Items.{Item, block}
-use Rattle.parse_steps.specs.Openings.{openings}
-use Rattle.parse_steps.specs.Steps.{most, Leads, Reaches, IsStuck, IsDeep, IsLate, Runs, deep_node, deep_type, left_over}
+use Rattle.parse_steps.specs.Steps.{most, Leads, IsDeep, deep_node, deep_type, left_over}
 use Rattle.parse_steps.specs.Turns.{turn}
 use Rattle.parse_steps.proofs.CanOpen.{can_open}
 use Rattle.parse_steps.proofs.Deepness.{deep_counted, takes_within, fits_most}
 use Rattle.parse_steps.proofs.Kept.{keeps}
-use Rattle.luau_parser.specs.declared.parts.Block.{Block}
-use Rattle.luau_parser.specs.declared.fault.Fault.{Fault}
-use Rattle.luau_parser.specs.declared.fault.Fault.TheVariants as fault
-use Rattle.luau_parser.specs.declared.error.ParseErr.{ParseErr}
-use Rattle.luau_parser.specs.declared.error.ParseErr.TheVariants as refusal
-use Rattle.luau_parser.specs.Parsed.{IsShallow, HasClearCalls, IsParsed, IsUnexpected, IsTooDeep, IsRefusal}
-use Rattle.luau_parser.specs.Reading.{ReadsScript, Fails, FindsBlock}
+use Rattle.expression_parser.specs.declared.parts.Block.{Block}
+use Rattle.expression_parser.specs.declared.fault.Fault.{Fault}
+use Rattle.expression_parser.specs.declared.fault.Fault.TheVariants as fault
+use Rattle.luau_parser.specs.Parsed.{IsShallow, IsParsed, IsUnexpected, IsTooDeep}
+use Rattle.expression_parser.specs.Reading.{FindsBlock}
+use Rattle.luau_parser.specs.Statements.{ReadsScript}
 use Rattle.luau_parser.proofs.NumberedNest.{nest_numbered}
 use Rattle.luau_parser.proofs.Whole.{no_late_call, no_chunk, no_shallow_chunk, read_nests, kinds_there, there_within}
 

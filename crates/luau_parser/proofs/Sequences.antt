@@ -1,11 +1,11 @@
 -- Parts that stand one behind the other, by turns: they read what is on top of the stack, and leave at most the nest of what they read.
-use Rattle.std.proofs.Common.{◌≡◌, ◌+◌, ℕ, max, List, ◌∷◌, arith}
+use Rattle.std.proofs.Common.{◌≡◌, ◌+◌, ℕ, max, List, arith}
 use Rattle.syntax_tree.specs.declared.token.Token.{Token}
 use Rattle.parse_steps.specs.Items.{Item, depth}
 use Rattle.parse_steps.specs.Steps.{most, Leads}
-use Rattle.luau_parser.specs.declared.fault.Fault.{Fault}
-use Rattle.luau_parser.specs.Reading.{Fails}
-use Rattle.luau_parser.proofs.Leading.{then_leads, then_fails, nest_to}
+use Rattle.expression_parser.specs.declared.fault.Fault.{Fault}
+use Rattle.expression_parser.specs.Reading.{Fails}
+use Rattle.expression_parser.proofs.Leading.{then_leads, then_fails, nest_to}
 
 -- items on a stack
 abbrev pub Stack : Type 0

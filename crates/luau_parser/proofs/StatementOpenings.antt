@@ -7,9 +7,9 @@ use Rattle.parse_steps.specs.declared.classes.Opening.{Opening}
 use Rattle.parse_steps.specs.declared.classes.Opening.TheVariants as opens
 use Rattle.parse_steps.specs.Classes.{opening}
 use Rattle.parse_steps.specs.Turns.{block_turn}
-use Rattle.luau_parser.specs.declared.fault.Fault.TheVariants as fault
+use Rattle.expression_parser.specs.declared.fault.Fault.TheVariants as fault
 use Rattle.luau_parser.specs.Statements.{IsNoName, FindsStat}
-use Rattle.luau_parser.proofs.Leading.{stuck_here}
+use Rattle.expression_parser.proofs.Leading.{stuck_here}
 
 -- what opens no statement, or one that is read by another rule
 abbrev pub OpensNone : Opening → Type 0

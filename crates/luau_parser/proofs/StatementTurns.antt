@@ -1,5 +1,5 @@
 -- Statements of blocks and conditions: what is read of them, by turns.
-use Rattle.std.proofs.Common.{◌≡◌, ◌≤◌, ◌<◌, ◌+◌, ◌-◌, ℕ, suc, max, List, ◌∷◌, refl, sym, ap, ◌∙◌, subst, arith, Result, Ok, Err}
+use Rattle.std.proofs.Common.{◌≡◌, ◌<◌, ◌+◌, ◌-◌, ℕ, max, List, ◌∷◌, refl, sym, ap, ◌∙◌, subst, arith, Result, Ok, Err}
 use Rattle.syntax_tree.specs.declared.token.Token.{Token}
 use Rattle.syntax_tree.specs.declared.token.TokenKind.TheVariants as token
 use Rattle.syntax_tree.specs.declared.tree.Expr.{Expr}
@@ -8,7 +8,7 @@ use Rattle.syntax_tree.specs.declared.tree.StatKind as stat
 use Rattle.syntax_tree.specs.Grammar.{IsExpr, IsStat, do_stat, while_stat, repeat_stat}
 use Rattle.syntax_tree.specs.Grammar as grammar
 use Rattle.syntax_tree.specs.Nodes.{stat_at}
-use Rattle.syntax_tree.specs.Places.{kind_at, Has}
+use Rattle.syntax_tree.specs.Places.{Has}
 use Rattle.parse_steps.specs.declared.classes.Opening.TheVariants as opens
 use Rattle.parse_steps.specs.declared.levels.Level.TheVariants as levels
 use Rattle.parse_steps.specs.declared.levels.Rank.TheVariants as ranks
@@ -17,14 +17,13 @@ use Rattle.parse_steps.specs.declared.words.Word.TheVariants as words
 use Rattle.parse_steps.specs.Classes.{opening}
 use Rattle.parse_steps.specs.Items as item
 use Rattle.parse_steps.specs.Items.{Item, depth, expression}
-use Rattle.parse_steps.specs.Steps.{most, Leads}
-use Rattle.luau_parser.specs.declared.fault.Fault.{Fault}
-use Rattle.luau_parser.specs.declared.parts.Part.{Part}
-use Rattle.luau_parser.specs.declared.parts.Block.{Block}
-use Rattle.luau_parser.specs.declared.parts.Statement.{Statement}
-use Rattle.luau_parser.specs.Reading.{Fails, FindsLevel, FindsBlock, FindsWord}
+use Rattle.parse_steps.specs.Steps.{most}
+use Rattle.expression_parser.specs.declared.fault.Fault.{Fault}
+use Rattle.expression_parser.specs.declared.parts.Part.{Part}
+use Rattle.expression_parser.specs.declared.parts.Block.{Block}
+use Rattle.expression_parser.specs.Reading.{FindsLevel, FindsBlock, FindsWord}
 use Rattle.luau_parser.specs.Statements.{FindsStat}
-use Rattle.luau_parser.proofs.Leading.{then_leads, then_fails, nest_to}
+use Rattle.expression_parser.proofs.Leading.{then_leads, then_fails, nest_to}
 use Rattle.luau_parser.proofs.Sequences.{Stack, Passes, Refuses, then_passes, then_refuses, refuses_first}
 use Rattle.luau_parser.proofs.NodeStatements.{OpensNode, faulty_part, whole_node}
 

@@ -11,14 +11,14 @@ use Rattle.syntax_tree.specs.Places.{Has}
 use Rattle.parse_steps.specs.Items as item
 use Rattle.parse_steps.specs.Items.{Item, later_target, depth}
 use Rattle.parse_steps.specs.Steps.{most, Leads}
-use Rattle.luau_parser.specs.declared.fault.Fault.{Fault}
-use Rattle.luau_parser.specs.declared.fault.Fault.TheVariants as fault
-use Rattle.luau_parser.specs.declared.parts.Part.{Part}
-use Rattle.luau_parser.specs.declared.parts.Prefix.{Prefix}
-use Rattle.luau_parser.specs.declared.parts.Ending.TheVariants as endings
-use Rattle.luau_parser.specs.Reading.{Fails, IsNamed, IsParenthesis, FindsParenthesis, FindsSuffixes, ending_of}
+use Rattle.expression_parser.specs.declared.fault.Fault.{Fault}
+use Rattle.expression_parser.specs.declared.fault.Fault.TheVariants as fault
+use Rattle.expression_parser.specs.declared.parts.Part.{Part}
+use Rattle.expression_parser.specs.declared.parts.Prefix.{Prefix}
+use Rattle.expression_parser.specs.declared.parts.Ending.TheVariants as endings
+use Rattle.expression_parser.specs.Reading.{Fails, IsNamed, IsParenthesis, FindsParenthesis, FindsSuffixes, ending_of}
 use Rattle.luau_parser.specs.Statements.{IsBegun, FindsTargetBegin, FindsTarget}
-use Rattle.luau_parser.proofs.Leading.{then_leads, then_fails, nest_to, place_to}
+use Rattle.expression_parser.proofs.Leading.{then_leads, then_fails, nest_to, place_to}
 use Rattle.luau_parser.proofs.AssignmentTurns.{to_parenthesis, to_target_name, no_later_call, no_later_paren}
 
 -- suffixes behind a parenthesis make a prefix with it

@@ -11,11 +11,11 @@ use Rattle.parse_steps.specs.Items.{Item, PrefixUse, first_target, later_target,
 use Rattle.parse_steps.specs.Steps.{most, Leads, here}
 use Rattle.parse_steps.specs.Turns.{turn, stops}
 use Rattle.parse_steps.proofs.ForwardAssignments.{is_target}
-use Rattle.luau_parser.specs.declared.fault.Fault.{Fault}
-use Rattle.luau_parser.specs.declared.fault.Fault.TheVariants as fault
-use Rattle.luau_parser.specs.declared.parts.Part.{Part}
+use Rattle.expression_parser.specs.declared.fault.Fault.{Fault}
+use Rattle.expression_parser.specs.declared.fault.Fault.TheVariants as fault
+use Rattle.expression_parser.specs.declared.parts.Part.{Part}
 use Rattle.luau_parser.specs.Statements.{IsPrefixRead, FindsTargets, FindsTarget}
-use Rattle.luau_parser.proofs.Leading.{then_leads, then_fails, staying, stuck_here, nest_to}
+use Rattle.expression_parser.proofs.Leading.{then_leads, then_fails, staying, stuck_here, nest_to}
 use Rattle.luau_parser.proofs.AssignmentTurns.{to_values, to_target, first_stops, later_stops}
 
 -- behind the target that was read last, which ends at a place: what the targets before it left to do leads behind them all

@@ -1,25 +1,23 @@
 -- What the turns of a whole script say of its trees.
-use Rattle.std.proofs.Common.{◌≡◌, ◌≢◌, ◌≤◌, ◌<◌, ◌+◌, ℕ, suc, Bool, true, false, List, [], ◌∷◌, ◌++◌, length, take, zero, Option, Some, None, ◌⊎◌, inl, inr, refl, sym, ap, ◌∙◌, subst, arith, true≢false}
+use Rattle.std.proofs.Common.{◌≡◌, ◌≢◌, ◌≤◌, ◌<◌, ◌+◌, ℕ, suc, true, List, [], ◌∷◌, ◌++◌, length, take, zero, Option, Some, None, ◌⊎◌, inl, inr, refl, sym, ap, ◌∙◌, arith, true≢false}
 use Rattle.syntax_tree.specs.declared.token.Token.{Token}
 use Rattle.syntax_tree.specs.declared.token.TokenKind.{TokenKind}
 use Rattle.syntax_tree.specs.declared.token.TokenKind.TheVariants as token
 use Rattle.syntax_tree.specs.declared.tree.Stat.{Stat}
-use Rattle.syntax_tree.specs.Calls.{call_places, OpensLate, OpensCall, IsLateCall, Ambiguous}
+use Rattle.syntax_tree.specs.Calls.{OpensLate, IsLateCall}
 use Rattle.syntax_tree.specs.Derivations.{IsChunk, main_function}
 use Rattle.syntax_tree.specs.Nest.{nest, nest_func}
 use Rattle.syntax_tree.specs.Numbers.{numbered}
 use Rattle.syntax_tree.specs.Places.{kind_at, Has}
 use Rattle.syntax_tree.specs.Types.{IsType}
 use Rattle.type_skip.specs.Reading.{SameBelow}
-use Rattle.type_skip.specs.Refusals.{BeginsAs}
 use Rattle.type_skip.proofs.Passing.{same_kinds, taken_front}
 use Rattle.parse_steps.specs.Items.{Item, suffixes, arguments, block, a_type}
-use Rattle.parse_steps.specs.Openings.{openings}
 use Rattle.parse_steps.specs.Turns.{Turn, turn, stops, stays, takes}
 use Rattle.parse_steps.specs.Steps as steps
 use Rattle.parse_steps.specs.Steps.{asks, Runs, here, stay, pass, most, InTime, Leads, Reaches, IsStuck, no_turn, no_type, left_over, IsDeep, deep_node, deep_type, IsLate}
-use Rattle.parse_steps.proofs.Together.{places_grow, then_runs, onward, passes, one_end, form, two_forms}
-use Rattle.parse_steps.proofs.Deepness.{nest_most, deep_counted}
+use Rattle.parse_steps.proofs.Together.{places_grow, onward, passes, one_end, form, two_forms}
+use Rattle.parse_steps.proofs.Deepness.{nest_most}
 use Rattle.parse_steps.proofs.Forward.{chunk_runs, chunk_asks}
 use Rattle.luau_parser.proofs.NumberedNest.{nest_numbered}
 

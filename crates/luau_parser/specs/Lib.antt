@@ -1,4 +1,3 @@
 pub mod Examples
-pub mod Reading
 pub mod Statements
 pub mod Parsed

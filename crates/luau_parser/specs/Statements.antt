@@ -1,17 +1,19 @@
 -- What the methods that read statements find.
-use Rattle.std.specs.Prelude.{◌≡◌, ◌≢◌, ℕ, ◌+◌, ◌-◌, ◌<◌, ◌≤◌, max, Bool, ◌&&◌, ◌||◌, nat_eq, IsTrue, IsFalse, List, [], ◌∷◌, Option, Some, None, Result, Ok, Err, ◌⊎◌}
+use Rattle.std.specs.Prelude.{◌≡◌, ◌≢◌, ℕ, ◌+◌, ◌<◌, ◌≤◌, max, Bool, ◌&&◌, ◌||◌, nat_eq, IsTrue, IsFalse, List, [], ◌∷◌, Option, Some, None, Result, Ok, Err, ◌⊎◌}
 use Rattle.byte_text.specs.declared.StrId.{StrId}
 use Rattle.syntax_tree.specs.declared.token.Token.{Token}
 use Rattle.syntax_tree.specs.declared.token.TokenKind.{TokenKind}
 use Rattle.syntax_tree.specs.declared.token.TokenKind.TheVariants as token
 use Rattle.syntax_tree.specs.declared.tree.Expr.{Expr}
+use Rattle.syntax_tree.specs.declared.tree.ExprKind as expr
 use Rattle.syntax_tree.specs.declared.tree.Stat.{Stat}
 use Rattle.syntax_tree.specs.declared.tree.StatKind as stat
 use Rattle.syntax_tree.specs.Grammar.{PrefixEnd, in_target, in_call, in_paren, IsExpr, IsList, IsFunctionName, IsPrefix, IsSuffixes, IsTargets, IsBlock, IsLast, IsStat, IsTypeStat, IsArms}
 use Rattle.syntax_tree.specs.Grammar as grammar
 use Rattle.syntax_tree.specs.Places.{kind_at, is_name, is_named, Has, Lacks, Optional}
 use Rattle.syntax_tree.specs.Types.{IsType, IsGenerics}
-use Rattle.syntax_tree.specs.Words.{continue_name, type_name, export_name, ends_block, opens_type, is_continue}
+use Rattle.syntax_tree.specs.Nodes.{expr_at, stat_at, function_at}
+use Rattle.syntax_tree.specs.Words.{self_name, continue_name, type_name, export_name, ends_block, opens_type, is_continue}
 use Rattle.parse_steps.specs.declared.words.Word.TheVariants as words
 use Rattle.parse_steps.specs.Classes.{suffix, opening}
 use Rattle.parse_steps.specs.Words.{is_word}
@@ -20,12 +22,13 @@ use Rattle.parse_steps.specs.declared.classes.Suffix.TheVariants as suffix_class
 use Rattle.parse_steps.specs.Items as item
 use Rattle.parse_steps.specs.Items.{Item, depth}
 use Rattle.parse_steps.specs.Steps.{most, Leads}
-use Rattle.luau_parser.specs.declared.fault.Fault.{Fault}
-use Rattle.luau_parser.specs.declared.fault.Fault.TheVariants as fault
-use Rattle.luau_parser.specs.declared.parts.Part.{Part}
-use Rattle.luau_parser.specs.declared.parts.Parts.{Parts}
-use Rattle.luau_parser.specs.declared.parts.Prefix.{Prefix}
-use Rattle.luau_parser.specs.declared.parts.Block.{Block}
+use Rattle.expression_parser.specs.declared.fault.Fault.{Fault}
+use Rattle.expression_parser.specs.declared.fault.Fault.TheVariants as fault
+use Rattle.expression_parser.specs.declared.parts.Part.{Part}
+use Rattle.expression_parser.specs.declared.parts.Parts.{Parts}
+use Rattle.expression_parser.specs.declared.parts.Prefix.{Prefix}
+use Rattle.expression_parser.specs.declared.parts.Block.{Block}
+use Rattle.expression_parser.specs.declared.parts.Function.{Function}
 use Rattle.luau_parser.specs.declared.parts.Statement.{Statement}
 use Rattle.luau_parser.specs.declared.parts.Step.{Step}
 use Rattle.luau_parser.specs.declared.parts.Step.TheVariants as step
@@ -36,7 +39,7 @@ use Rattle.luau_parser.specs.declared.parts.Otherwise.{Otherwise}
 use Rattle.luau_parser.specs.declared.parts.Limits.{Limits}
 use Rattle.luau_parser.specs.declared.parts.Count.{Count}
 use Rattle.luau_parser.specs.declared.parts.Walk.{Walk}
-use Rattle.luau_parser.specs.Reading.{Fails, Finds, FindsShallow, from_item, to_greater, Within, ending_of}
+use Rattle.expression_parser.specs.Reading.{Fails, Finds, FindsName, FindsShallow, from_item, to_greater, Within, ending_of}
 
 -- ---- a whole statement, from the block's item to what is behind it
 
@@ -141,6 +144,19 @@ FindsTargetBegin ts room i = Finds ts room i (from_item item.target) (λ (p : Pr
 abbrev pub FindsFunctionName : List Token → (room i : ℕ) → Result FunctionName Fault → Type 0
 FindsFunctionName ts room i = Finds ts room i (λ v k. (0, item.a_name ∷ item.members ∷ k)) (λ (n : FunctionName). IsFunctionName ts i n.expr n.added n.end × Within room i n.nest n.end) (λ (n : FunctionName). n.end) (λ (n : FunctionName) v k. (n.nest, k))
 
+-- a further name of it, behind the `.` or the `:` that stands behind a part which begins at place b
+abbrev pub FindsMemberName : List Token → (room b : ℕ) → (left : Part) → Result Part Fault → Type 0
+FindsMemberName ts room b left (Ok p) = (left.nest < room) × ((x : StrId) × FindsName ts (left.end + 1) (Ok x) × (p.expr ≡ expr_at ts b (expr.Member left.expr x))) × (p.nest ≡ left.nest + 1) × (p.end ≡ left.end + 2)
+FindsMemberName ts room b left (Err f) = ((room ≤ left.nest) × (f ≡ fault.TooDeep left.end)) ⊎ ((left.nest < room) × FindsName ts (left.end + 1) (Err f))
+
+-- the name of a method, with the parameter that it adds
+abbrev pub IsMethodName : Part → FunctionName → Type 0
+IsMethodName p n = (n.expr ≡ p.expr) × (n.added ≡ self_name ∷ []) × (n.nest ≡ p.nest) × (n.end ≡ p.end)
+
+-- the assignment of a function, whose word stands at place i, to a target
+abbrev pub assigns_function : List Token → (i : ℕ) → Expr → Function → Stat
+assigns_function ts i e f = stat_at ts i (stat.Assign (e ∷ []) (expr_at ts i (expr.Function (function_at ts i f.params f.vararg f.stats)) ∷ []))
+
 -- what is behind the word `if`, up to its `end`
 abbrev pub FindsArms : List Token → (room i : ℕ) → Result Arms Fault → Type 0
 FindsArms ts room i = Finds ts room i (λ v k. (v, item.expression ∷ item.expects words.Then ∷ item.block ∷ item.arm_more ∷ k)) (λ (a : Arms). IsArms ts most i a.arms a.other a.end × Within room i a.nest a.end) (λ (a : Arms). a.end) (λ (a : Arms). to_greater a.nest)
@@ -180,3 +196,9 @@ IsWalk ts i w = (j m : ℕ) × IsList ts most i w.values j × Has ts j token.Do 
 
 abbrev pub FindsWalk : List Token → (room i : ℕ) → Result Walk Fault → Type 0
 FindsWalk ts room i = Finds ts room i (λ v k. (v, item.expression ∷ item.list_more ∷ item.expects words.Do ∷ item.block ∷ item.expects words.End ∷ k)) (λ (w : Walk). IsWalk ts i w × Within room i w.nest w.end) (λ (w : Walk). w.end) (λ (w : Walk). to_greater w.nest)
+
+-- ---- a whole script
+
+abbrev pub ReadsScript : List Token → Result Block Fault → Type 0
+ReadsScript ts (Ok b) = IsBlock ts most 0 b.stats b.end × (kind_at ts b.end ≡ None) × Leads ts 0 0 (item.block ∷ []) b.end b.nest []
+ReadsScript ts (Err f) = Fails ts 0 0 (item.block ∷ []) f

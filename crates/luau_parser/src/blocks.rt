@@ -4,17 +4,16 @@ ghost use Rattle.std.specs.Prelude.{◌≡◌, ◌+◌, ◌<◌, ◌^◌, length
 ghost use Rattle.syntax_tree.specs.Places.{kind_at, is_name, is_named, Has};
 ghost use Rattle.syntax_tree.specs.Words.{ends_block, type_name};
 ghost use Rattle.syntax_tree.specs.declared.token.TokenKind.TheVariants.{Return, Break, Name};
-ghost use Rattle.luau_parser.specs.Reading.{Nests, FindsBlock};
+ghost use Rattle.expression_parser.specs.Reading.{Nests, FindsBlock};
 ghost use Rattle.luau_parser.specs.Statements.{FindsStep, FindsLast, FindsLastEnd, FindsTypeRest, IsBehindSemicolon, IsPlainName, may_end};
 
-use crate::fault::Fault;
-use crate::functions::generics;
-use crate::grammar::Grammar;
-use crate::nodes::{named, stat_at};
-use crate::parts::{Block, Found, Prefix, Statement, Step, Wanted};
-use crate::types::type_at;
-use crate::words::{expect, expect_name};
+use crate::nodes::{boxed_stat, push_stat};
+use crate::parts::{Statement, Step};
+use crate::rules::Rules;
 use byte_text::StrId;
+use expression_parser::{
+    Block, Fault, Found, Prefix, Wanted, expect, expect_name, generics, named, type_at,
+};
 use parse_steps::{Opening, Word, kind_at, opening_at, stands};
 use sqlite_items::Items;
 use std::alloc::Global;
@@ -87,14 +86,14 @@ fn type_rest(tokens: &[Token], at: usize) -> Result<usize, Fault>
     type_at(tokens, begin)
 }
 
-impl<'a, F: Fn(Global, &[Token], usize, Wanted, usize) -> Result<Found, Fault>> Grammar<'a, F> {
+impl<'a, F: Fn(Global, &[Token], usize, Wanted, usize) -> Result<Found, Fault>> Rules<'a, F> {
     /// Statements, up to what ends their block.
     pub(crate) fn block(&self, at: usize) -> Result<Block, Fault>
-        requires nests { Nests self.now.room (F.pre self.now.nested) (F.post self.now.nested) }
-        requires room { self.now.room < 2 ^ 32 }
-        ensures { FindsBlock self.now.tokens.now self.now.room at result }
+        requires nests { Nests self.now.grammar.room (F.pre self.now.grammar.nested) (F.post self.now.grammar.nested) }
+        requires room { self.now.grammar.room < 2 ^ 32 }
+        ensures { FindsBlock self.now.grammar.tokens.now self.now.grammar.room at result }
     {
-        let mut stats = Items::new(self.alloc);
+        let mut stats = Items::new(self.grammar.alloc);
         let mut nest = 0;
         let mut end = at;
         loop {
@@ -104,10 +103,10 @@ impl<'a, F: Fn(Global, &[Token], usize, Wanted, usize) -> Result<Found, Fault>> 
                 Step::Stat(next) => {
                     nest = nest.max(next.nest);
                     end = next.end;
-                    stats.push(next.stat)?;
+                    push_stat(&mut stats, next.stat)?;
                 }
                 Step::Last(last) => {
-                    stats.push(last.stat)?;
+                    push_stat(&mut stats, last.stat)?;
                     return Ok(Block {
                         stats,
                         nest: nest.max(last.nest),
@@ -120,11 +119,11 @@ impl<'a, F: Fn(Global, &[Token], usize, Wanted, usize) -> Result<Found, Fault>> 
 
     /// What a block goes on with.
     fn step(&self, at: usize) -> Result<Step, Fault>
-        requires nests { Nests self.now.room (F.pre self.now.nested) (F.post self.now.nested) }
-        requires room { self.now.room < 2 ^ 32 }
-        ensures { FindsStep self.now.tokens.now self.now.room at result }
+        requires nests { Nests self.now.grammar.room (F.pre self.now.grammar.nested) (F.post self.now.grammar.nested) }
+        requires room { self.now.grammar.room < 2 ^ 32 }
+        ensures { FindsStep self.now.grammar.tokens.now self.now.grammar.room at result }
     {
-        match opening_at(self.tokens, at) {
+        match opening_at(self.grammar.tokens, at) {
             Opening::Ends => Ok(Step::Ends),
             Opening::Return => Ok(Step::Last(self.return_stat(at)?)),
             Opening::Break => Ok(Step::Last(self.break_stat(at)?)),
@@ -132,7 +131,7 @@ impl<'a, F: Fn(Global, &[Token], usize, Wanted, usize) -> Result<Found, Fault>> 
             _ => {
                 let statement = self.statement(at)?;
                 Ok(Step::Stat(Statement {
-                    end: behind_semicolon(self.tokens, statement.end),
+                    end: behind_semicolon(self.grammar.tokens, statement.end),
                     nest: statement.nest,
                     stat: statement.stat,
                 }))
@@ -142,83 +141,79 @@ impl<'a, F: Fn(Global, &[Token], usize, Wanted, usize) -> Result<Found, Fault>> 
 
     /// `return`, with values or without.
     fn return_stat(&self, at: usize) -> Result<Statement, Fault>
-        requires nests { Nests self.now.room (F.pre self.now.nested) (F.post self.now.nested) }
-        requires room { self.now.room < 2 ^ 32 }
-        requires opens { Has self.now.tokens.now at Return }
-        ensures { FindsLast self.now.tokens.now self.now.room at result }
+        requires nests { Nests self.now.grammar.room (F.pre self.now.grammar.nested) (F.post self.now.grammar.nested) }
+        requires room { self.now.grammar.room < 2 ^ 32 }
+        requires opens { Has self.now.grammar.tokens.now at Return }
+        ensures { FindsLast self.now.grammar.tokens.now self.now.grammar.room at result }
     {
         let next = at + 1;
-        if may_end(self.tokens, next) {
-            let end = last_end(self.tokens, next)?;
-            let kind = StatKind::Return(Items::new(self.alloc));
-            return Ok(Statement {
-                stat: stat_at(self.tokens, at, kind),
-                nest: 0,
-                end,
-            });
+        if may_end(self.grammar.tokens, next) {
+            let end = last_end(self.grammar.tokens, next)?;
+            let kind = StatKind::Return(Items::new(self.grammar.alloc));
+            let stat = boxed_stat(self.grammar.alloc, self.grammar.tokens, at, kind)?;
+            return Ok(Statement { stat, nest: 0, end });
         }
-        let values = self.list(next)?;
-        let end = last_end(self.tokens, values.end)?;
-        Ok(Statement {
-            stat: stat_at(self.tokens, at, StatKind::Return(values.list)),
-            nest: values.nest,
-            end,
-        })
+        let values = self.grammar.list(next)?;
+        let end = last_end(self.grammar.tokens, values.end)?;
+        let nest = values.nest;
+        let kind = StatKind::Return(values.list);
+        let stat = boxed_stat(self.grammar.alloc, self.grammar.tokens, at, kind)?;
+        Ok(Statement { stat, nest, end })
     }
 
     /// `break`.
     fn break_stat(&self, at: usize) -> Result<Statement, Fault>
-        requires opens { Has self.now.tokens.now at Break }
-        ensures { FindsLast self.now.tokens.now self.now.room at result }
+        requires opens { Has self.now.grammar.tokens.now at Break }
+        ensures { FindsLast self.now.grammar.tokens.now self.now.grammar.room at result }
     {
-        let end = last_end(self.tokens, at + 1)?;
-        Ok(Statement {
-            stat: stat_at(self.tokens, at, StatKind::Break),
-            nest: 0,
-            end,
-        })
+        let end = last_end(self.grammar.tokens, at + 1)?;
+        let stat = boxed_stat(self.grammar.alloc, self.grammar.tokens, at, StatKind::Break)?;
+        Ok(Statement { stat, nest: 0, end })
     }
 
     /// What begins with a name: `continue`, the definition of a type, a call or an assignment.
     fn named_step(&self, at: usize, name: StrId) -> Result<Step, Fault>
-        requires nests { Nests self.now.room (F.pre self.now.nested) (F.post self.now.nested) }
-        requires room { self.now.room < 2 ^ 32 }
-        requires opens { Has self.now.tokens.now at (Name name) }
-        ensures { FindsStep self.now.tokens.now self.now.room at result }
+        requires nests { Nests self.now.grammar.room (F.pre self.now.grammar.nested) (F.post self.now.grammar.nested) }
+        requires room { self.now.grammar.room < 2 ^ 32 }
+        requires opens { Has self.now.grammar.tokens.now at (Name name) }
+        ensures { FindsStep self.now.grammar.tokens.now self.now.grammar.room at result }
     {
         let next = at + 1;
-        if name == StrId::CONTINUE && may_end(self.tokens, next) {
-            let end = last_end(self.tokens, next)?;
-            return Ok(Step::Last(Statement {
-                stat: stat_at(self.tokens, at, StatKind::Continue),
-                nest: 0,
-                end,
-            }));
+        if name == StrId::CONTINUE && may_end(self.grammar.tokens, next) {
+            let end = last_end(self.grammar.tokens, next)?;
+            let stat = boxed_stat(
+                self.grammar.alloc,
+                self.grammar.tokens,
+                at,
+                StatKind::Continue,
+            )?;
+            return Ok(Step::Last(Statement { stat, nest: 0, end }));
         }
-        if name == StrId::TYPE && has_name(self.tokens, next) {
-            let end = type_rest(self.tokens, at + 2)?;
-            return Ok(Step::Types(behind_semicolon(self.tokens, end)));
+        if name == StrId::TYPE && has_name(self.grammar.tokens, next) {
+            let end = type_rest(self.grammar.tokens, at + 2)?;
+            return Ok(Step::Types(behind_semicolon(self.grammar.tokens, end)));
         }
-        if name == StrId::EXPORT && has_type_name(self.tokens, next) {
-            expect_name(self.tokens, at + 2)?;
-            let end = type_rest(self.tokens, at + 3)?;
-            return Ok(Step::Types(behind_semicolon(self.tokens, end)));
+        if name == StrId::EXPORT && has_type_name(self.grammar.tokens, next) {
+            expect_name(self.grammar.tokens, at + 2)?;
+            let end = type_rest(self.grammar.tokens, at + 3)?;
+            return Ok(Step::Types(behind_semicolon(self.grammar.tokens, end)));
         }
         self.named_stat(at, name)
     }
 
     /// A call or an assignment that begins with a name.
     fn named_stat(&self, at: usize, name: StrId) -> Result<Step, Fault>
-        requires nests { Nests self.now.room (F.pre self.now.nested) (F.post self.now.nested) }
-        requires room { self.now.room < 2 ^ 32 }
-        requires opens { Has self.now.tokens.now at (Name name) }
-        requires plain { IsPlainName name (kind_at self.now.tokens.now (at + 1)) }
-        ensures { FindsStep self.now.tokens.now self.now.room at result }
+        requires nests { Nests self.now.grammar.room (F.pre self.now.grammar.nested) (F.post self.now.grammar.nested) }
+        requires room { self.now.grammar.room < 2 ^ 32 }
+        requires opens { Has self.now.grammar.tokens.now at (Name name) }
+        requires plain { IsPlainName name (kind_at self.now.grammar.tokens.now (at + 1)) }
+        ensures { FindsStep self.now.grammar.tokens.now self.now.grammar.room at result }
     {
-        let Prefix { part, ending } = self.suffixes(at, named(self.tokens, at, name))?;
+        let first = named(self.grammar.alloc, self.grammar.tokens, at, name)?;
+        let Prefix { part, ending } = self.grammar.suffixes(at, first)?;
         let statement = self.prefix_stat(at, part, ending)?;
         Ok(Step::Stat(Statement {
-            end: behind_semicolon(self.tokens, statement.end),
+            end: behind_semicolon(self.grammar.tokens, statement.end),
             nest: statement.nest,
             stat: statement.stat,
         }))

@@ -1,151 +1,14 @@
-//! Parts of a tree, each with its nest, the greatest number of nested nodes on one path in it, and the place behind it.
+//! Parts of a block, each with its nest, the greatest number of nested nodes on one path in it, and the place behind it.
+//! A single node stands in a box.
 
 use byte_text::StrId;
-use parse_steps::Level;
 use sqlite_items::{Boxed, Items};
-use syntax_tree::{Arm, Expr, ExprArm, Field, Stat};
-
-/// An expression.
-#[derive(Drop)]
-pub(crate) struct Part {
-    pub(crate) expr: Expr,
-    pub(crate) nest: usize,
-    pub(crate) end: usize,
-}
-
-/// Expressions.
-#[derive(Drop)]
-pub(crate) struct Parts {
-    pub(crate) list: Items<Expr>,
-    pub(crate) nest: usize,
-    pub(crate) end: usize,
-}
-
-/// The texts and values of an interpolated string behind its first text.
-#[derive(Drop)]
-pub(crate) struct Pieces {
-    pub(crate) texts: Items<StrId>,
-    pub(crate) values: Items<Expr>,
-    pub(crate) nest: usize,
-    pub(crate) end: usize,
-}
-
-/// An arm of an `if` expression.
-#[derive(Drop)]
-pub(crate) struct ArmPart {
-    pub(crate) arm: ExprArm,
-    pub(crate) nest: usize,
-    pub(crate) end: usize,
-}
-
-/// The arms of an `if` expression.
-#[derive(Drop)]
-pub(crate) struct Choices {
-    pub(crate) arms: Items<ExprArm>,
-    pub(crate) other: Expr,
-    pub(crate) nest: usize,
-    pub(crate) end: usize,
-}
-
-/// What a prefix ends in.
-#[derive(Clone, Copy)]
-pub(crate) enum Ending {
-    /// A name or an index.
-    Target,
-    /// Arguments.
-    Call,
-    /// A parenthesis.
-    Paren,
-}
-
-/// A name or a parenthesis with suffixes.
-#[derive(Drop)]
-pub(crate) struct Prefix {
-    pub(crate) part: Part,
-    pub(crate) ending: Ending,
-}
-
-/// A field of a table.
-#[derive(Drop)]
-pub(crate) struct FieldPart {
-    pub(crate) field: Field,
-    pub(crate) nest: usize,
-    pub(crate) end: usize,
-}
-
-/// The fields of a table, up to its `}`.
-#[derive(Drop)]
-pub(crate) struct Fields {
-    pub(crate) list: Items<Field>,
-    pub(crate) nest: usize,
-    pub(crate) end: usize,
-}
-
-/// Parameters, up to their `)`.
-#[derive(Drop)]
-pub(crate) struct Parameters {
-    pub(crate) names: Items<StrId>,
-    pub(crate) vararg: bool,
-    pub(crate) end: usize,
-}
-
-/// A function behind its name.
-#[derive(Drop)]
-pub(crate) struct Function {
-    pub(crate) params: Items<StrId>,
-    pub(crate) vararg: bool,
-    pub(crate) stats: Items<Stat>,
-    pub(crate) nest: usize,
-    pub(crate) end: usize,
-}
-
-/// A name with a type or without.
-#[derive(Clone, Copy)]
-pub(crate) struct Bind {
-    pub(crate) name: StrId,
-    pub(crate) end: usize,
-}
-
-/// Names with commas between.
-#[derive(Drop)]
-pub(crate) struct Binds {
-    pub(crate) names: Items<StrId>,
-    pub(crate) end: usize,
-}
-
-/// Statements.
-#[derive(Drop)]
-pub(crate) struct Block {
-    pub(crate) stats: Items<Stat>,
-    pub(crate) nest: usize,
-    pub(crate) end: usize,
-}
-
-/// What may be read one node further in.
-#[derive(Clone, Copy)]
-pub(crate) enum Wanted {
-    Level(Level),
-    /// What an operator before one operand takes.
-    Unary,
-    /// A table, at its `{`.
-    Table,
-    /// Expressions with commas between.
-    List,
-    Block,
-}
-
-/// What was read there.
-#[derive(Drop)]
-pub(crate) enum Found {
-    Part(Part),
-    Parts(Parts),
-    Block(Block),
-}
+use syntax_tree::{Arm, Expr, Stat};
 
 /// A statement.
 #[derive(Drop)]
 pub(crate) struct Statement {
-    pub(crate) stat: Stat,
+    pub(crate) stat: Boxed<Stat>,
     pub(crate) nest: usize,
     pub(crate) end: usize,
 }
@@ -166,7 +29,7 @@ pub(crate) enum Step {
 /// The name of a function, with the parameter that the name of a method adds.
 #[derive(Drop)]
 pub(crate) struct FunctionName {
-    pub(crate) expr: Expr,
+    pub(crate) expr: Boxed<Expr>,
     pub(crate) added: Items<StrId>,
     pub(crate) nest: usize,
     pub(crate) end: usize,
@@ -184,7 +47,7 @@ pub(crate) struct Arms {
 /// A condition and the block behind its `then`.
 #[derive(Drop)]
 pub(crate) struct Guarded {
-    pub(crate) cond: Expr,
+    pub(crate) cond: Boxed<Expr>,
     pub(crate) body: Items<Stat>,
     pub(crate) nest: usize,
     pub(crate) end: usize,
@@ -201,8 +64,8 @@ pub(crate) struct Otherwise {
 /// The numbers of a numeric `for`.
 #[derive(Drop)]
 pub(crate) struct Limits {
-    pub(crate) start: Expr,
-    pub(crate) limit: Expr,
+    pub(crate) start: Boxed<Expr>,
+    pub(crate) limit: Boxed<Expr>,
     pub(crate) step: Option<Boxed<Expr>>,
     pub(crate) nest: usize,
     pub(crate) end: usize,
@@ -211,8 +74,8 @@ pub(crate) struct Limits {
 /// A numeric `for` behind its `=`.
 #[derive(Drop)]
 pub(crate) struct Count {
-    pub(crate) start: Expr,
-    pub(crate) limit: Expr,
+    pub(crate) start: Boxed<Expr>,
+    pub(crate) limit: Boxed<Expr>,
     pub(crate) step: Option<Boxed<Expr>>,
     pub(crate) body: Items<Stat>,
     pub(crate) nest: usize,

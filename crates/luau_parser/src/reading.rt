@@ -1,11 +1,10 @@
 //! A whole script, by the rules that read their own nested parts.
 
-ghost use Rattle.luau_parser.specs.Reading.{Asked, FindsWanted};
+ghost use Rattle.expression_parser.specs.Reading.{Asked, FindsWanted};
 ghost use Rattle.std.specs.Prelude.{◌<◌, ◌^◌};
 
-use crate::fault::Fault;
-use crate::grammar::Grammar;
-use crate::parts::{Found, Wanted};
+use crate::rules::Rules;
+use expression_parser::{Fault, Found, Grammar, Wanted};
 use std::alloc::Global;
 use syntax_tree::Token;
 
@@ -27,11 +26,12 @@ pub(crate) fn nested(
         room,
         nested,
     };
+    let rules = Rules { grammar };
     match wanted {
         Wanted::Level(level) => Ok(Found::Part(grammar.level(at, level)?)),
         Wanted::Unary => Ok(Found::Part(grammar.unary(at)?)),
         Wanted::Table => Ok(Found::Part(grammar.table(at)?)),
         Wanted::List => Ok(Found::Parts(grammar.list(at)?)),
-        Wanted::Block => Ok(Found::Block(grammar.block(at)?)),
+        Wanted::Block => Ok(Found::Block(rules.block(at)?)),
     }
 }

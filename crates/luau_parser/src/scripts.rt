@@ -5,13 +5,12 @@ ghost use Rattle.syntax_tree.specs.Calls.{Ambiguous};
 ghost use Rattle.syntax_tree.specs.declared.tree.Tree.{Tree};
 ghost use Rattle.type_skip.specs.Refusals.{offset_at, end_of};
 ghost use Rattle.luau_parser.specs.Parsed.{IsShallow, IsParsed, IsRefusal, Answers};
-ghost use Rattle.luau_parser.specs.Reading.{ReadsScript};
+ghost use Rattle.luau_parser.specs.Statements.{ReadsScript};
 ghost use Rattle.luau_parser.specs.declared.error.ParseErr.TheVariants as refusal;
 
 use crate::error::ParseErr;
-use crate::fault::Fault;
-use crate::parts::{Block, Found, Wanted};
 use crate::reading::nested;
+use expression_parser::{Block, Fault, Found, Wanted};
 use node_numbers::number;
 use sqlite_items::Items;
 use std::alloc::Global;

@@ -1,34 +1,46 @@
 //! Statements that begin with a reserved word.
 
-ghost use Rattle.std.specs.Prelude.{◌+◌, ◌<◌, ◌-◌, ◌^◌};
+ghost use Rattle.std.specs.Prelude.{◌+◌, ◌<◌, ◌-◌, ◌^◌, length, IfOk};
 ghost use Rattle.syntax_tree.specs.Places.{Has, Lacks};
 ghost use Rattle.syntax_tree.specs.declared.token.TokenKind.TheVariants as token;
-ghost use Rattle.luau_parser.specs.Reading.{Nests};
-ghost use Rattle.luau_parser.specs.Statements.{IsNoName, FindsStat, FindsArms, FindsGuarded, FindsOtherwise, FindsLimits, FindsCount, FindsWalk, FindsFunctionName};
+ghost use Rattle.expression_parser.specs.Reading.{Nests};
+ghost use Rattle.luau_parser.specs.Statements.{IsNoName, FindsStat, FindsArms, FindsGuarded, FindsOtherwise, FindsLimits, FindsCount, FindsWalk, FindsFunctionName, FindsMemberName, IsMethodName};
 
-use crate::fault::Fault;
-use crate::functions::{bind, binds};
-use crate::grammar::{Grammar, within};
-use crate::nodes::{expr_at, func_at, stat_at};
-use crate::parts::{
-    Arms, Count, Found, FunctionName, Guarded, Limits, Otherwise, Statement, Walk, Wanted,
-};
-use crate::words::{expect, expect_name};
+use crate::nodes::{boxed_stat, function_assigned, push_arm};
+use crate::parts::{Arms, Count, FunctionName, Guarded, Limits, Otherwise, Statement, Walk};
+use crate::rules::Rules;
 use byte_text::StrId;
+use expression_parser::{
+    Fault, Found, Part, Wanted, bind, binds, boxed_at, expect, expect_name, func_at, within,
+};
 use parse_steps::{Opening, Word, opening_at, stands};
-use sqlite_items::{Boxed, Items};
-use std::alloc::Global;
-use syntax_tree::{Arm, ExprKind, StatKind, Token};
+use sqlite_items::Items;
+use std::alloc::{AllocError, Global};
+use syntax_tree::{ExprKind, StatKind, Token};
 
-impl<'a, F: Fn(Global, &[Token], usize, Wanted, usize) -> Result<Found, Fault>> Grammar<'a, F> {
+/// The name of a method, which adds a parameter.
+fn method_name(alloc: Global, method: Part) -> Result<FunctionName, AllocError>
+    ensures { IfOk result (IsMethodName method) }
+{
+    let mut added = Items::new(alloc);
+    added.push(StrId::SELF)?;
+    Ok(FunctionName {
+        expr: method.expr,
+        added,
+        nest: method.nest,
+        end: method.end,
+    })
+}
+
+impl<'a, F: Fn(Global, &[Token], usize, Wanted, usize) -> Result<Found, Fault>> Rules<'a, F> {
     /// A statement that is not the last of its block and does not begin with a name.
     pub(crate) fn statement(&self, at: usize) -> Result<Statement, Fault>
-        requires nests { Nests self.now.room (F.pre self.now.nested) (F.post self.now.nested) }
-        requires room { self.now.room < 2 ^ 32 }
-        requires opens { IsNoName self.now.tokens.now at }
-        ensures { FindsStat self.now.tokens.now self.now.room at result }
+        requires nests { Nests self.now.grammar.room (F.pre self.now.grammar.nested) (F.post self.now.grammar.nested) }
+        requires room { self.now.grammar.room < 2 ^ 32 }
+        requires opens { IsNoName self.now.grammar.tokens.now at }
+        ensures { FindsStat self.now.grammar.tokens.now self.now.grammar.room at result }
     {
-        match opening_at(self.tokens, at) {
+        match opening_at(self.grammar.tokens, at) {
             Opening::Do => self.do_stat(at),
             Opening::While => self.while_stat(at),
             Opening::Repeat => self.repeat_stat(at),
@@ -36,7 +48,7 @@ impl<'a, F: Fn(Global, &[Token], usize, Wanted, usize) -> Result<Found, Fault>> 
             Opening::For => self.for_stat(at),
             Opening::Function => self.function_stat(at),
             Opening::Local => {
-                if stands(self.tokens, at + 1, Word::Function) {
+                if stands(self.grammar.tokens, at + 1, Word::Function) {
                     self.local_function(at)
                 } else {
                     self.local(at)
@@ -52,77 +64,85 @@ impl<'a, F: Fn(Global, &[Token], usize, Wanted, usize) -> Result<Found, Fault>> 
     }
 
     fn do_stat(&self, at: usize) -> Result<Statement, Fault>
-        requires nests { Nests self.now.room (F.pre self.now.nested) (F.post self.now.nested) }
-        requires room { self.now.room < 2 ^ 32 }
-        requires opens { Has self.now.tokens.now at token.Do }
-        ensures { FindsStat self.now.tokens.now self.now.room at result }
+        requires nests { Nests self.now.grammar.room (F.pre self.now.grammar.nested) (F.post self.now.grammar.nested) }
+        requires room { self.now.grammar.room < 2 ^ 32 }
+        requires opens { Has self.now.grammar.tokens.now at token.Do }
+        ensures { FindsStat self.now.grammar.tokens.now self.now.grammar.room at result }
     {
-        within(0, self.room, at)?;
-        let block = self.inner_block(at + 1)?;
-        let end = expect(self.tokens, block.end, Word::End)?;
-        Ok(Statement {
-            stat: stat_at(self.tokens, at, StatKind::Do(block.stats)),
-            nest: block.nest + 1,
-            end,
-        })
+        within(0, self.grammar.room, at)?;
+        let block = self.grammar.inner_block(at + 1)?;
+        let end = expect(self.grammar.tokens, block.end, Word::End)?;
+        let nest = block.nest + 1;
+        let stat = boxed_stat(
+            self.grammar.alloc,
+            self.grammar.tokens,
+            at,
+            StatKind::Do(block.stats),
+        )?;
+        Ok(Statement { stat, nest, end })
     }
 
     fn while_stat(&self, at: usize) -> Result<Statement, Fault>
-        requires nests { Nests self.now.room (F.pre self.now.nested) (F.post self.now.nested) }
-        requires room { self.now.room < 2 ^ 32 }
-        requires opens { Has self.now.tokens.now at token.While }
-        ensures { FindsStat self.now.tokens.now self.now.room at result }
+        requires nests { Nests self.now.grammar.room (F.pre self.now.grammar.nested) (F.post self.now.grammar.nested) }
+        requires room { self.now.grammar.room < 2 ^ 32 }
+        requires opens { Has self.now.grammar.tokens.now at token.While }
+        ensures { FindsStat self.now.grammar.tokens.now self.now.grammar.room at result }
     {
-        within(0, self.room, at)?;
-        let part = self.inner_expr(at + 1)?;
-        let begin = expect(self.tokens, part.end, Word::Do)?;
-        let block = self.inner_block(begin)?;
-        let end = expect(self.tokens, block.end, Word::End)?;
+        within(0, self.grammar.room, at)?;
+        let part = self.grammar.inner_expr(at + 1)?;
+        let begin = expect(self.grammar.tokens, part.end, Word::Do)?;
+        let block = self.grammar.inner_block(begin)?;
+        let end = expect(self.grammar.tokens, block.end, Word::End)?;
         let nest = part.nest.max(block.nest) + 1;
-        let cond = Boxed::new(self.alloc, part.expr)?;
+        let cond = part.expr;
         let body = block.stats;
-        Ok(Statement {
-            stat: stat_at(self.tokens, at, StatKind::While { cond, body }),
-            nest,
-            end,
-        })
+        let stat = boxed_stat(
+            self.grammar.alloc,
+            self.grammar.tokens,
+            at,
+            StatKind::While { cond, body },
+        )?;
+        Ok(Statement { stat, nest, end })
     }
 
     fn repeat_stat(&self, at: usize) -> Result<Statement, Fault>
-        requires nests { Nests self.now.room (F.pre self.now.nested) (F.post self.now.nested) }
-        requires room { self.now.room < 2 ^ 32 }
-        requires opens { Has self.now.tokens.now at token.Repeat }
-        ensures { FindsStat self.now.tokens.now self.now.room at result }
+        requires nests { Nests self.now.grammar.room (F.pre self.now.grammar.nested) (F.post self.now.grammar.nested) }
+        requires room { self.now.grammar.room < 2 ^ 32 }
+        requires opens { Has self.now.grammar.tokens.now at token.Repeat }
+        ensures { FindsStat self.now.grammar.tokens.now self.now.grammar.room at result }
     {
-        within(0, self.room, at)?;
-        let block = self.inner_block(at + 1)?;
-        let begin = expect(self.tokens, block.end, Word::Until)?;
-        let part = self.inner_expr(begin)?;
+        within(0, self.grammar.room, at)?;
+        let block = self.grammar.inner_block(at + 1)?;
+        let begin = expect(self.grammar.tokens, block.end, Word::Until)?;
+        let part = self.grammar.inner_expr(begin)?;
         let nest = block.nest.max(part.nest) + 1;
         let end = part.end;
         let body = block.stats;
-        let cond = Boxed::new(self.alloc, part.expr)?;
-        Ok(Statement {
-            stat: stat_at(self.tokens, at, StatKind::Repeat { body, cond }),
-            nest,
-            end,
-        })
+        let cond = part.expr;
+        let stat = boxed_stat(
+            self.grammar.alloc,
+            self.grammar.tokens,
+            at,
+            StatKind::Repeat { body, cond },
+        )?;
+        Ok(Statement { stat, nest, end })
     }
 
     fn if_stat(&self, at: usize) -> Result<Statement, Fault>
-        requires nests { Nests self.now.room (F.pre self.now.nested) (F.post self.now.nested) }
-        requires room { self.now.room < 2 ^ 32 }
-        requires opens { Has self.now.tokens.now at token.If }
-        ensures { FindsStat self.now.tokens.now self.now.room at result }
+        requires nests { Nests self.now.grammar.room (F.pre self.now.grammar.nested) (F.post self.now.grammar.nested) }
+        requires room { self.now.grammar.room < 2 ^ 32 }
+        requires opens { Has self.now.grammar.tokens.now at token.If }
+        ensures { FindsStat self.now.grammar.tokens.now self.now.grammar.room at result }
     {
-        within(0, self.room, at)?;
+        within(0, self.grammar.room, at)?;
         let arms = self.arms(at + 1)?;
         let kind = StatKind::If {
             arms: arms.arms,
             other: arms.other,
         };
+        let stat = boxed_stat(self.grammar.alloc, self.grammar.tokens, at, kind)?;
         Ok(Statement {
-            stat: stat_at(self.tokens, at, kind),
+            stat,
             nest: arms.nest + 1,
             end: arms.end,
         })
@@ -130,23 +150,20 @@ impl<'a, F: Fn(Global, &[Token], usize, Wanted, usize) -> Result<Found, Fault>> 
 
     /// The arms of an `if`, behind that word and up to its `end`.
     fn arms(&self, at: usize) -> Result<Arms, Fault>
-        requires nests { Nests self.now.room (F.pre self.now.nested) (F.post self.now.nested) }
-        requires room { 0 < self.now.room }
-        requires small { self.now.room < 2 ^ 32 }
-        ensures { FindsArms self.now.tokens.now (self.now.room - 1) at result }
+        requires nests { Nests self.now.grammar.room (F.pre self.now.grammar.nested) (F.post self.now.grammar.nested) }
+        requires room { 0 < self.now.grammar.room }
+        requires small { self.now.grammar.room < 2 ^ 32 }
+        ensures { FindsArms self.now.grammar.tokens.now (self.now.grammar.room - 1) at result }
     {
-        let mut arms = Items::new(self.alloc);
+        let mut arms = Items::new(self.grammar.alloc);
         let mut nest: usize = 0;
         let mut begin = at;
         loop {
             let next = self.guarded(begin)?;
             nest = nest.max(next.nest);
             begin = next.end;
-            arms.push(Arm {
-                cond: next.cond,
-                body: next.body,
-            })?;
-            if !stands(self.tokens, begin, Word::ElseIf) {
+            push_arm(&mut arms, next.cond, next.body)?;
+            if !stands(self.grammar.tokens, begin, Word::ElseIf) {
                 let last = self.last_block(begin)?;
                 return Ok(Arms {
                     arms,
@@ -161,14 +178,14 @@ impl<'a, F: Fn(Global, &[Token], usize, Wanted, usize) -> Result<Found, Fault>> 
 
     /// A condition and its block.
     fn guarded(&self, at: usize) -> Result<Guarded, Fault>
-        requires nests { Nests self.now.room (F.pre self.now.nested) (F.post self.now.nested) }
-        requires room { 0 < self.now.room }
-        requires small { self.now.room < 2 ^ 32 }
-        ensures { FindsGuarded self.now.tokens.now (self.now.room - 1) at result }
+        requires nests { Nests self.now.grammar.room (F.pre self.now.grammar.nested) (F.post self.now.grammar.nested) }
+        requires room { 0 < self.now.grammar.room }
+        requires small { self.now.grammar.room < 2 ^ 32 }
+        ensures { FindsGuarded self.now.grammar.tokens.now (self.now.grammar.room - 1) at result }
     {
-        let part = self.inner_expr(at)?;
-        let begin = expect(self.tokens, part.end, Word::Then)?;
-        let block = self.inner_block(begin)?;
+        let part = self.grammar.inner_expr(at)?;
+        let begin = expect(self.grammar.tokens, part.end, Word::Then)?;
+        let block = self.grammar.inner_block(begin)?;
         Ok(Guarded {
             cond: part.expr,
             body: block.stats,
@@ -179,22 +196,22 @@ impl<'a, F: Fn(Global, &[Token], usize, Wanted, usize) -> Result<Found, Fault>> 
 
     /// The end of an `if`, with the block behind its `else` if one stands there.
     fn last_block(&self, at: usize) -> Result<Otherwise, Fault>
-        requires nests { Nests self.now.room (F.pre self.now.nested) (F.post self.now.nested) }
-        requires room { 0 < self.now.room }
-        requires small { self.now.room < 2 ^ 32 }
-        requires no_arm { Lacks self.now.tokens.now at token.ElseIf }
-        ensures { FindsOtherwise self.now.tokens.now (self.now.room - 1) at result }
+        requires nests { Nests self.now.grammar.room (F.pre self.now.grammar.nested) (F.post self.now.grammar.nested) }
+        requires room { 0 < self.now.grammar.room }
+        requires small { self.now.grammar.room < 2 ^ 32 }
+        requires no_arm { Lacks self.now.grammar.tokens.now at token.ElseIf }
+        ensures { FindsOtherwise self.now.grammar.tokens.now (self.now.grammar.room - 1) at result }
     {
-        if !stands(self.tokens, at, Word::Else) {
-            let end = expect(self.tokens, at, Word::End)?;
+        if !stands(self.grammar.tokens, at, Word::Else) {
+            let end = expect(self.grammar.tokens, at, Word::End)?;
             return Ok(Otherwise {
                 other: None,
                 nest: 0,
                 end,
             });
         }
-        let last = self.inner_block(at + 1)?;
-        let end = expect(self.tokens, last.end, Word::End)?;
+        let last = self.grammar.inner_block(at + 1)?;
+        let end = expect(self.grammar.tokens, last.end, Word::End)?;
         Ok(Otherwise {
             other: Some(last.stats),
             nest: last.nest,
@@ -203,40 +220,40 @@ impl<'a, F: Fn(Global, &[Token], usize, Wanted, usize) -> Result<Found, Fault>> 
     }
 
     fn for_stat(&self, at: usize) -> Result<Statement, Fault>
-        requires nests { Nests self.now.room (F.pre self.now.nested) (F.post self.now.nested) }
-        requires room { self.now.room < 2 ^ 32 }
-        requires opens { Has self.now.tokens.now at token.For }
-        ensures { FindsStat self.now.tokens.now self.now.room at result }
+        requires nests { Nests self.now.grammar.room (F.pre self.now.grammar.nested) (F.post self.now.grammar.nested) }
+        requires room { self.now.grammar.room < 2 ^ 32 }
+        requires opens { Has self.now.grammar.tokens.now at token.For }
+        ensures { FindsStat self.now.grammar.tokens.now self.now.grammar.room at result }
     {
-        within(0, self.room, at)?;
-        let first = bind(self.tokens, at + 1)?;
-        if stands(self.tokens, first.end, Word::Equal) {
+        within(0, self.grammar.room, at)?;
+        let first = bind(self.grammar.tokens, at + 1)?;
+        if stands(self.grammar.tokens, first.end, Word::Equal) {
             let count = self.count(first.end + 1)?;
-            let start = Boxed::new(self.alloc, count.start)?;
-            let limit = Boxed::new(self.alloc, count.limit)?;
             let kind = StatKind::NumFor {
                 name: first.name,
-                start,
-                limit,
+                start: count.start,
+                limit: count.limit,
                 step: count.step,
                 body: count.body,
             };
+            let stat = boxed_stat(self.grammar.alloc, self.grammar.tokens, at, kind)?;
             return Ok(Statement {
-                stat: stat_at(self.tokens, at, kind),
+                stat,
                 nest: count.nest + 1,
                 end: count.end,
             });
         }
-        let names = binds(self.alloc, self.tokens, at + 1, first)?;
-        let begin = expect(self.tokens, names.end, Word::In)?;
+        let names = binds(self.grammar.alloc, self.grammar.tokens, at + 1, first)?;
+        let begin = expect(self.grammar.tokens, names.end, Word::In)?;
         let walk = self.walk(begin)?;
         let kind = StatKind::GenFor {
             names: names.names,
             values: walk.values,
             body: walk.body,
         };
+        let stat = boxed_stat(self.grammar.alloc, self.grammar.tokens, at, kind)?;
         Ok(Statement {
-            stat: stat_at(self.tokens, at, kind),
+            stat,
             nest: walk.nest + 1,
             end: walk.end,
         })
@@ -244,15 +261,15 @@ impl<'a, F: Fn(Global, &[Token], usize, Wanted, usize) -> Result<Found, Fault>> 
 
     /// A numeric `for`, behind its `=` and up to its `end`.
     fn count(&self, at: usize) -> Result<Count, Fault>
-        requires nests { Nests self.now.room (F.pre self.now.nested) (F.post self.now.nested) }
-        requires room { 0 < self.now.room }
-        requires small { self.now.room < 2 ^ 32 }
-        ensures { FindsCount self.now.tokens.now (self.now.room - 1) at result }
+        requires nests { Nests self.now.grammar.room (F.pre self.now.grammar.nested) (F.post self.now.grammar.nested) }
+        requires room { 0 < self.now.grammar.room }
+        requires small { self.now.grammar.room < 2 ^ 32 }
+        ensures { FindsCount self.now.grammar.tokens.now (self.now.grammar.room - 1) at result }
     {
         let limits = self.limits(at)?;
-        let inside = expect(self.tokens, limits.end, Word::Do)?;
-        let block = self.inner_block(inside)?;
-        let end = expect(self.tokens, block.end, Word::End)?;
+        let inside = expect(self.grammar.tokens, limits.end, Word::Do)?;
+        let block = self.grammar.inner_block(inside)?;
+        let end = expect(self.grammar.tokens, block.end, Word::End)?;
         Ok(Count {
             start: limits.start,
             limit: limits.limit,
@@ -265,16 +282,16 @@ impl<'a, F: Fn(Global, &[Token], usize, Wanted, usize) -> Result<Found, Fault>> 
 
     /// The numbers of a numeric `for`.
     fn limits(&self, at: usize) -> Result<Limits, Fault>
-        requires nests { Nests self.now.room (F.pre self.now.nested) (F.post self.now.nested) }
-        requires room { 0 < self.now.room }
-        requires small { self.now.room < 2 ^ 32 }
-        ensures { FindsLimits self.now.tokens.now (self.now.room - 1) at result }
+        requires nests { Nests self.now.grammar.room (F.pre self.now.grammar.nested) (F.post self.now.grammar.nested) }
+        requires room { 0 < self.now.grammar.room }
+        requires small { self.now.grammar.room < 2 ^ 32 }
+        ensures { FindsLimits self.now.grammar.tokens.now (self.now.grammar.room - 1) at result }
     {
-        let start = self.inner_expr(at)?;
-        let begin = expect(self.tokens, start.end, Word::Comma)?;
-        let limit = self.inner_expr(begin)?;
+        let start = self.grammar.inner_expr(at)?;
+        let begin = expect(self.grammar.tokens, start.end, Word::Comma)?;
+        let limit = self.grammar.inner_expr(begin)?;
         let nest = start.nest.max(limit.nest);
-        if !stands(self.tokens, limit.end, Word::Comma) {
+        if !stands(self.grammar.tokens, limit.end, Word::Comma) {
             return Ok(Limits {
                 start: start.expr,
                 limit: limit.expr,
@@ -283,12 +300,11 @@ impl<'a, F: Fn(Global, &[Token], usize, Wanted, usize) -> Result<Found, Fault>> 
                 end: limit.end,
             });
         }
-        let part = self.inner_expr(limit.end + 1)?;
-        let step = Boxed::new(self.alloc, part.expr)?;
+        let part = self.grammar.inner_expr(limit.end + 1)?;
         Ok(Limits {
             start: start.expr,
             limit: limit.expr,
-            step: Some(step),
+            step: Some(part.expr),
             nest: nest.max(part.nest),
             end: part.end,
         })
@@ -296,15 +312,15 @@ impl<'a, F: Fn(Global, &[Token], usize, Wanted, usize) -> Result<Found, Fault>> 
 
     /// A generic `for`, behind its `in` and up to its `end`.
     fn walk(&self, at: usize) -> Result<Walk, Fault>
-        requires nests { Nests self.now.room (F.pre self.now.nested) (F.post self.now.nested) }
-        requires room { 0 < self.now.room }
-        requires small { self.now.room < 2 ^ 32 }
-        ensures { FindsWalk self.now.tokens.now (self.now.room - 1) at result }
+        requires nests { Nests self.now.grammar.room (F.pre self.now.grammar.nested) (F.post self.now.grammar.nested) }
+        requires room { 0 < self.now.grammar.room }
+        requires small { self.now.grammar.room < 2 ^ 32 }
+        ensures { FindsWalk self.now.grammar.tokens.now (self.now.grammar.room - 1) at result }
     {
-        let values = self.inner_list(at)?;
-        let inside = expect(self.tokens, values.end, Word::Do)?;
-        let block = self.inner_block(inside)?;
-        let end = expect(self.tokens, block.end, Word::End)?;
+        let values = self.grammar.inner_list(at)?;
+        let inside = expect(self.grammar.tokens, values.end, Word::Do)?;
+        let block = self.grammar.inner_block(inside)?;
+        let end = expect(self.grammar.tokens, block.end, Word::End)?;
         Ok(Walk {
             values: values.list,
             body: block.stats,
@@ -315,110 +331,128 @@ impl<'a, F: Fn(Global, &[Token], usize, Wanted, usize) -> Result<Found, Fault>> 
 
     /// The assignment of a function.
     fn function_stat(&self, at: usize) -> Result<Statement, Fault>
-        requires nests { Nests self.now.room (F.pre self.now.nested) (F.post self.now.nested) }
-        requires room { self.now.room < 2 ^ 32 }
-        requires opens { Has self.now.tokens.now at token.Function }
-        ensures { FindsStat self.now.tokens.now self.now.room at result }
+        requires nests { Nests self.now.grammar.room (F.pre self.now.grammar.nested) (F.post self.now.grammar.nested) }
+        requires room { self.now.grammar.room < 2 ^ 32 }
+        requires opens { Has self.now.grammar.tokens.now at token.Function }
+        ensures { FindsStat self.now.grammar.tokens.now self.now.grammar.room at result }
     {
-        within(0, self.room, at)?;
+        within(0, self.grammar.room, at)?;
         let name = self.function_name(at + 1)?;
-        let function = self.body(name.end, name.added)?;
+        let function = self.grammar.body(name.end, name.added)?;
         let nest = name.nest.max(function.nest + 1);
         let end = function.end;
-        let mut targets = Items::new(self.alloc);
-        targets.push(name.expr)?;
-        let mut values = Items::new(self.alloc);
-        let func = func_at(self.tokens, at, function);
-        values.push(expr_at(self.tokens, at, ExprKind::Function(func)))?;
-        Ok(Statement {
-            stat: stat_at(self.tokens, at, StatKind::Assign { targets, values }),
-            nest,
-            end,
-        })
+        let stat = function_assigned(
+            self.grammar.alloc,
+            self.grammar.tokens,
+            at,
+            name.expr,
+            function,
+        )?;
+        Ok(Statement { stat, nest, end })
     }
 
     /// The name of a function, and the parameter that the name of a method adds.
     fn function_name(&self, at: usize) -> Result<FunctionName, Fault>
-        requires room { self.now.room < 2 ^ 32 }
-        ensures { FindsFunctionName self.now.tokens.now self.now.room at result }
+        requires room { self.now.grammar.room < 2 ^ 32 }
+        ensures { FindsFunctionName self.now.grammar.tokens.now self.now.grammar.room at result }
     {
-        let first = expect_name(self.tokens, at)?;
-        let mut expr = expr_at(self.tokens, at, ExprKind::Name(first));
-        let mut nest = 0;
-        let mut end = at + 1;
-        while stands(self.tokens, end, Word::Dot) {
-            within(nest, self.room, end)?;
-            let name = expect_name(self.tokens, end + 1)?;
-            let table = Boxed::new(self.alloc, expr)?;
-            expr = expr_at(self.tokens, at, ExprKind::Member { table, name });
-            nest += 1;
-            end += 2;
+        let first = expect_name(self.grammar.tokens, at)?;
+        let expr = boxed_at(
+            self.grammar.alloc,
+            self.grammar.tokens,
+            at,
+            ExprKind::Name(first),
+        )?;
+        let mut part = Part {
+            expr,
+            nest: 0,
+            end: at + 1,
+        };
+        while stands(self.grammar.tokens, part.end, Word::Dot) {
+            part = self.member_name(at, part)?;
         }
-        let mut added = Items::new(self.alloc);
-        if stands(self.tokens, end, Word::Colon) {
-            within(nest, self.room, end)?;
-            let name = expect_name(self.tokens, end + 1)?;
-            let table = Boxed::new(self.alloc, expr)?;
-            expr = expr_at(self.tokens, at, ExprKind::Member { table, name });
-            nest += 1;
-            end += 2;
-            added.push(StrId::SELF)?;
+        if stands(self.grammar.tokens, part.end, Word::Colon) {
+            let method = self.member_name(at, part)?;
+            return Ok(method_name(self.grammar.alloc, method)?);
         }
         Ok(FunctionName {
-            expr,
-            added,
-            nest,
-            end,
+            expr: part.expr,
+            added: Items::new(self.grammar.alloc),
+            nest: part.nest,
+            end: part.end,
         })
+    }
+
+    /// A further name, behind the `.` or the `:` that stands behind a part which begins at a place.
+    fn member_name(&self, begin: usize, left: Part) -> Result<Part, Fault>
+        requires room { self.now.grammar.room < 2 ^ 32 }
+        requires there { left.end < length self.now.grammar.tokens.now }
+        requires few { length self.now.grammar.tokens.now < 2 ^ 63 }
+        ensures { FindsMemberName self.now.grammar.tokens.now self.now.grammar.room begin left result }
+    {
+        within(left.nest, self.grammar.room, left.end)?;
+        let name = expect_name(self.grammar.tokens, left.end + 1)?;
+        let nest = left.nest + 1;
+        let end = left.end + 2;
+        let kind = ExprKind::Member {
+            table: left.expr,
+            name,
+        };
+        let expr = boxed_at(self.grammar.alloc, self.grammar.tokens, begin, kind)?;
+        Ok(Part { expr, nest, end })
     }
 
     fn local_function(&self, at: usize) -> Result<Statement, Fault>
-        requires nests { Nests self.now.room (F.pre self.now.nested) (F.post self.now.nested) }
-        requires room { self.now.room < 2 ^ 32 }
-        requires opens { Has self.now.tokens.now at token.Local }
-        requires word { Has self.now.tokens.now (at + 1) token.Function }
-        ensures { FindsStat self.now.tokens.now self.now.room at result }
+        requires nests { Nests self.now.grammar.room (F.pre self.now.grammar.nested) (F.post self.now.grammar.nested) }
+        requires room { self.now.grammar.room < 2 ^ 32 }
+        requires opens { Has self.now.grammar.tokens.now at token.Local }
+        requires word { Has self.now.grammar.tokens.now (at + 1) token.Function }
+        ensures { FindsStat self.now.grammar.tokens.now self.now.grammar.room at result }
     {
-        within(0, self.room, at + 1)?;
-        let name = expect_name(self.tokens, at + 2)?;
-        let function = self.body(at + 3, Items::new(self.alloc))?;
+        within(0, self.grammar.room, at + 1)?;
+        let name = expect_name(self.grammar.tokens, at + 2)?;
+        let function = self.grammar.body(at + 3, Items::new(self.grammar.alloc))?;
         let nest = function.nest + 1;
         let end = function.end;
-        let func = func_at(self.tokens, at + 1, function);
-        Ok(Statement {
-            stat: stat_at(self.tokens, at, StatKind::LocalFunction { name, func }),
-            nest,
-            end,
-        })
+        let func = func_at(self.grammar.tokens, at + 1, function);
+        let stat = boxed_stat(
+            self.grammar.alloc,
+            self.grammar.tokens,
+            at,
+            StatKind::LocalFunction { name, func },
+        )?;
+        Ok(Statement { stat, nest, end })
     }
 
     fn local(&self, at: usize) -> Result<Statement, Fault>
-        requires nests { Nests self.now.room (F.pre self.now.nested) (F.post self.now.nested) }
-        requires room { self.now.room < 2 ^ 32 }
-        requires opens { Has self.now.tokens.now at token.Local }
-        requires no_function { Lacks self.now.tokens.now (at + 1) token.Function }
-        ensures { FindsStat self.now.tokens.now self.now.room at result }
+        requires nests { Nests self.now.grammar.room (F.pre self.now.grammar.nested) (F.post self.now.grammar.nested) }
+        requires room { self.now.grammar.room < 2 ^ 32 }
+        requires opens { Has self.now.grammar.tokens.now at token.Local }
+        requires no_function { Lacks self.now.grammar.tokens.now (at + 1) token.Function }
+        ensures { FindsStat self.now.grammar.tokens.now self.now.grammar.room at result }
     {
-        let first = bind(self.tokens, at + 1)?;
-        let names = binds(self.alloc, self.tokens, at + 1, first)?;
-        if !stands(self.tokens, names.end, Word::Equal) {
+        let first = bind(self.grammar.tokens, at + 1)?;
+        let names = binds(self.grammar.alloc, self.grammar.tokens, at + 1, first)?;
+        if !stands(self.grammar.tokens, names.end, Word::Equal) {
             let kind = StatKind::Local {
                 names: names.names,
-                values: Items::new(self.alloc),
+                values: Items::new(self.grammar.alloc),
             };
+            let stat = boxed_stat(self.grammar.alloc, self.grammar.tokens, at, kind)?;
             return Ok(Statement {
-                stat: stat_at(self.tokens, at, kind),
+                stat,
                 nest: 0,
                 end: names.end,
             });
         }
-        let values = self.list(names.end + 1)?;
+        let values = self.grammar.list(names.end + 1)?;
         let kind = StatKind::Local {
             names: names.names,
             values: values.list,
         };
+        let stat = boxed_stat(self.grammar.alloc, self.grammar.tokens, at, kind)?;
         Ok(Statement {
-            stat: stat_at(self.tokens, at, kind),
+            stat,
             nest: values.nest,
             end: values.end,
         })

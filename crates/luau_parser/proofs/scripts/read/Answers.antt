@@ -1,8 +1,6 @@
-use Rattle.std.proofs.Common.{List, [], ◌∷◌, Ok, Err, refl, sym, ap, ◌∙◌, arith}
+use Rattle.std.proofs.Common.{Ok}
 use Rattle.std.proofs.lemmas.Result.{err_from_is_err_and}
-use Rattle.luau_parser.specs.declared.parts.Found.TheVariants as found
-use Rattle.luau_parser.specs.declared.parts.Wanted.TheVariants as wanted
-use Rattle.luau_parser.specs.Reading.{FindsWanted, FindsBlock}
+use Rattle.expression_parser.specs.Reading.{FindsBlock}
 use Rattle.luau_parser.proofs.Refusing.{left_over_block, whole_block, whole_fault}
 use Rattle.luau_parser.proofs.scripts.read.Goals as goal
 

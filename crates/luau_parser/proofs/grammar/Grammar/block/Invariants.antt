@@ -1,9 +1,0 @@
-use Rattle.std.proofs.Common.{◌-◌, length}
-use Rattle.luau_parser.proofs.BlockSteps.{BlockSoFar}
-use Rattle.luau_parser.proofs.grammar.Grammar.block.Given as goal
-
-abbrev pub invariant-loop-stats : goal.invariant-loop-stats
-invariant-loop-stats g l = BlockSoFar l.self.tokens.now l.self.room l.fn.at l.stats l.nest l.end
-
-abbrev pub decreases-loop-stats : goal.decreases-loop-stats
-decreases-loop-stats g l = length l.self.tokens.now - l.end

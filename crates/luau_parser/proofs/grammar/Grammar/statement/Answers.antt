@@ -1,6 +1,0 @@
-use Rattle.luau_parser.proofs.StatementOpenings.{no_statement}
-use Rattle.luau_parser.proofs.grammar.Grammar.statement.Goals as goal
-
-pub returns-in-Ends : goal.returns-in-Ends
-returns-in-Ends g c = no_statement c.args.self.now.tokens.now c.args.self.now.room c.args.at c.opening_at.result c.opening_at.ensures
-    c.requires.opens c.in-Ends.is

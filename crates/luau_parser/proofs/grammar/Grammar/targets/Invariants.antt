@@ -1,9 +1,0 @@
-use Rattle.std.proofs.Common.{◌-◌, length}
-use Rattle.luau_parser.proofs.TargetRuns.{TargetsSoFar}
-use Rattle.luau_parser.proofs.grammar.Grammar.targets.Given as goal
-
-abbrev pub invariant-loop-list : goal.invariant-loop-list
-invariant-loop-list g l = TargetsSoFar l.self.tokens.now l.self.room l.begin l.fn.first l.list l.nest l.end
-
-abbrev pub decreases-loop-list : goal.decreases-loop-list
-decreases-loop-list g l = length l.self.tokens.now - l.end
