@@ -15,6 +15,7 @@ pub mod Operators
 pub mod Owners
 pub mod Pairs
 pub mod Parts
+pub mod Pieces
 pub mod Paths
 pub mod Store
 pub mod StringRows

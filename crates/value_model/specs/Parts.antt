@@ -1,6 +1,6 @@
 -- What a program keeps, as the meanings know it: the number of a text gives way to its bytes, and of an object's number its place is
 -- left.
-use Rattle.std.specs.Prelude.{ℕ, List, [], slice_index_or}
+use Rattle.std.specs.Prelude.{ℕ, ◌<◌, List, [], length, slice_index_or}
 use Rattle.value_model.specs.declared.builtin.Builtin.{Builtin}
 use Rattle.value_model.specs.declared.error.RunErr.{RunErr}
 use Rattle.value_model.specs.declared.error.RunErr.TheVariants as err
@@ -37,6 +37,12 @@ meant texts (kept.Native f) = Native f
 meant texts (kept.Host h) = Host h.0
 meant texts (kept.Wrap co) = Wrap co.place
 meant texts (kept.Thread co) = Thread co.place
+
+-- the texts that the run error shows have numbers
+abbrev pub IsKnown : (texts : List Bytes) → RunErr → Type 0
+IsKnown texts (err.IndexWithName base key) = key.0 < length texts
+IsKnown texts (err.HostArgument n path t) = path.0 < length texts
+IsKnown texts e = Unit {0}
 
 -- The run error that is meant. A host function is kept by the number of its whole path.
 unfoldable pub meant_error : (texts : List Bytes) → RunErr → error.RunError
