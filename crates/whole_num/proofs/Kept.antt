@@ -10,7 +10,7 @@ use Rattle.whole_num.specs.Literals.{Scaled, IsTheWhole, IsDecimal, IsLiteral, I
 use Rattle.whole_num.specs.declared.literal.Read.{Read}
 use Rattle.whole_num.specs.declared.literal.Read.TheVariants as read
 use Rattle.whole_num.specs.declared.mantissa.Mantissa.{Mantissa}
-use Rattle.whole_num.proofs.Powers.{ten_pos, cut_digit, not_whole, whole_at, up_lacks, up_left, cut_shifted}
+use Rattle.whole_num.proofs.Tens.{ten_pos, cut_digit, not_whole, whole_at, up_lacks, up_left, cut_shifted}
 
 -- ---- digits
 

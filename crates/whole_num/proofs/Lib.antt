@@ -1,6 +1,11 @@
+pub mod Division
 pub mod EachText
 pub mod Kept
 pub mod Literals
 pub mod Marks
-pub mod Powers
+pub mod Raising
+pub mod Readings
+pub mod Seen
+pub mod Tens
+pub mod Texts
 pub mod Spelling

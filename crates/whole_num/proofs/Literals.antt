@@ -5,7 +5,7 @@ use Rattle.whole_num.specs.Digits.{NamesBase, AnswersDecimal}
 use Rattle.whole_num.specs.Literals.{Scaled, IsDecimal, IsBased, IsLiteral, decimal, hexadecimal, binary, Answers, without_marks, ReadsLiteral}
 use Rattle.whole_num.specs.declared.literal.Read.{Read}
 use Rattle.whole_num.specs.declared.literal.Read.TheVariants as read
-use Rattle.whole_num.proofs.Powers.{whole_once}
+use Rattle.whole_num.proofs.Tens.{whole_once}
 use Rattle.whole_num.proofs.Spelling.{decimal_once, names_no_decimal, names_once, hexadecimal_names, binary_names}
 
 -- ---- values
@@ -43,7 +43,7 @@ literal_once text v w (binary h) k =
 -- ---- answers
 
 -- a value has one answer
-answers_once : (v : Scaled) (r s : Read) → Answers v r → Answers v s → r ≡ s
+pub answers_once : (v : Scaled) (r s : Read) → Answers v r → Answers v s → r ≡ s
 answers_once v read.NotNumber s a b = absurd a
 answers_once v r read.NotNumber a b = absurd b
 answers_once v read.NotWhole read.NotWhole a b = refl

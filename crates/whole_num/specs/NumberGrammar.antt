@@ -1,10 +1,11 @@
 -- Texts that are read as numbers at run time, by their grammar.
-use Rattle.std.specs.Prelude.{List, ℕ, ◌≡◌, ℤ, Bool, true, false, [], ◌∷◌, ◌++◌, Some, None, Result}
+use Rattle.std.specs.Prelude.{List, ℕ, ◌^◌, ◌≤◌, ◌≡◌, ℤ, pos, neg_ℤ, Bool, true, false, [], ◌∷◌, ◌++◌}
 use Rattle.std.specs.List.{list_all}
 use Rattle.std.specs.Str.Parse.{IsNumeral, digits_value}
-use Rattle.whole_num.specs.Literals.{Scaled, IsDecimal}
-use Rattle.whole_num.specs.declared.arithmetic.Stop.{Stop}
-use Rattle.whole_num.specs.NumberTexts.{ReadNumber, is_blank, exact, negated}
+use Rattle.whole_num.specs.Literals.{Scaled, IsTheWhole, IsDecimal, Answers}
+use Rattle.whole_num.specs.NumberTexts.{is_blank}
+use Rattle.whole_num.specs.declared.literal.Read.{Read}
+use Rattle.whole_num.specs.declared.literal.Read.TheVariants as read
 
 -- a sign, or none, with whether the number is below 0
 pub data IsSign : (text : List ℕ) (negative : Bool) → Type 0 where
@@ -29,12 +30,18 @@ pub record IsNumberText (text : List ℕ) (negative : Bool) (value : Scaled) : T
   pub is_sign : IsSign sign negative
   pub is_unsigned : IsUnsigned body value
 
--- the number, or the stop where the exact value is not whole or out of range
-abbrev pub signed_value : (negative : Bool) → Scaled → Result ℤ Stop
-signed_value true v = negated (exact v.mantissa v.up v.down)
-signed_value false v = exact v.mantissa v.up v.down
+-- a number that is not below 0, or its opposite
+abbrev pub signed : (negative : Bool) → ℕ → ℤ
+signed true n = neg_ℤ (pos n)
+signed false n = pos n
 
--- what a text is, read as a number
-abbrev pub ReadsNumber : List ℕ → ReadNumber → Type 0
-ReadsNumber text None = (negative : Bool) (value : Scaled) → IsNumberText text negative value → ⊥
-ReadsNumber text (Some r) = (negative : Bool) × (value : Scaled) × IsNumberText text negative value × (r ≡ signed_value negative value)
+-- What an exact value is with its sign: not whole; or out of range, where it is a whole number below -2^53 or above 2^53;
+-- or that whole number.
+abbrev pub SignedAnswers : (negative : Bool) → Scaled → Read → Type 0
+SignedAnswers negative value (read.Whole z) = (n : ℕ) × IsTheWhole value n × (n ≤ 2 ^ 53) × (z ≡ signed negative n)
+SignedAnswers negative value answer = Answers value answer
+
+-- What a text is, read as a number: no number where it is none, and else what its value is.
+abbrev pub ReadsText : (bytes : List ℕ) → Read → Type 0
+ReadsText bytes read.NotNumber = (negative : Bool) (value : Scaled) → IsNumberText bytes negative value → ⊥
+ReadsText bytes answer = (negative : Bool) × (value : Scaled) × IsNumberText bytes negative value × SignedAnswers negative value answer

@@ -4,12 +4,21 @@ use Rattle.std.specs.List.{list_all}
 use Rattle.std.specs.Char.{digit_value}
 use Rattle.std.specs.Str.Parse.{digits_value}
 use Rattle.whole_num.specs.declared.arithmetic.Stop.{Stop}
-use Rattle.whole_num.specs.declared.arithmetic.Stop.TheVariants.{NotWhole}
+use Rattle.whole_num.specs.declared.arithmetic.Stop.TheVariants.{NotWhole, OutOfRange}
+use Rattle.whole_num.specs.declared.literal.Read.{Read}
+use Rattle.whole_num.specs.declared.literal.Read.TheVariants as read
 use Rattle.whole_num.specs.Whole.{within}
 
 -- the number that a text is, or the stop where its value is not whole or out of range; none where the text is no number
 abbrev pub ReadNumber : Type 0
 ReadNumber = Option (Result ℤ Stop)
+
+-- the answer of a reader, so
+abbrev pub number_of : Read → ReadNumber
+number_of (read.Whole z) = Some (Ok z)
+number_of read.NotWhole = Some (Err NotWhole)
+number_of read.OutOfRange = Some (Err OutOfRange)
+number_of read.NotNumber = None
 
 -- space, tab, LF, VT, FF, CR
 abbrev pub is_blank : ℕ → Bool

@@ -57,7 +57,7 @@ impl Whole {
 }
 
 // The number, or `Stop::OutOfRange`.
-fn in_range(n: i64) -> Result<Whole, Stop>
+pub(crate) fn in_range(n: i64) -> Result<Whole, Stop>
     ensures { result ≡ within n }
 {
     Whole::new(n).ok_or(Stop::OutOfRange)

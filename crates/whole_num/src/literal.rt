@@ -41,7 +41,7 @@ pub fn read_literal(bytes: &[u8]) -> Read
 }
 
 // A number, which was cut at the greatest of 64 bits.
-fn in_range(n: u64) -> Read
+pub(crate) fn in_range(n: u64) -> Read
     ensures { (value : Scaled) (exact : ℕ) → IsTheWhole value exact → n ≡ cut exact → Answers value result }
 {
     if n <= 1 << 53 {
@@ -55,7 +55,7 @@ fn in_range(n: u64) -> Read
 }
 
 // Reads a decimal literal.
-fn decimal(text: &[u8]) -> Read
+pub(crate) fn decimal(text: &[u8]) -> Read
     ensures { AnswersDecimal (without_marks text.now) result }
 {
     let mut mantissa = Mantissa::new();
@@ -172,7 +172,7 @@ fn radix_of(letter: u8) -> Option<u32>
 }
 
 // Reads digits of a base, which go to the end of the text. The number is cut at the greatest of 64 bits.
-fn numeral(text: &[u8], radix: u32) -> Option<u64>
+pub(crate) fn numeral(text: &[u8], radix: u32) -> Option<u64>
     requires low { 2 ≤ radix }
     requires high { radix ≤ 36 }
     ensures { MatchOption result (IsNumeral radix (without_marks text.now) → ⊥)

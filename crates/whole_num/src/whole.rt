@@ -1,6 +1,6 @@
 //! A number in range.
 
-ghost use Rattle.std.specs.Prelude.{◌≡◌, SomeIff};
+ghost use Rattle.std.specs.Prelude.{◌≡◌, neg_ℤ, SomeIff};
 ghost use Rattle.whole_num.specs.Whole.{IsWhole};
 
 use std::marker::Model;
@@ -48,5 +48,12 @@ impl Whole {
         ensures range { IsWhole result }
     {
         self.value
+    }
+
+    /// The number with the other sign. 0 has none and stays.
+    pub fn neg(self) -> Whole
+        ensures { result ≡ neg_ℤ self }
+    {
+        Whole { value: -self.value }
     }
 }

@@ -1,5 +1,5 @@
 use Rattle.std.proofs.Common.{◌*◌, ◌^◌, ◌-◌, min, ap, ◌∙◌}
-use Rattle.whole_num.proofs.Powers.{cut_shift}
+use Rattle.whole_num.proofs.Tens.{cut_shift}
 use Rattle.whole_num.proofs.mantissa.shifted.Goals as goal
 
 pub loop-preserved : goal.loop-preserved
