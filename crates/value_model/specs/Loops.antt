@@ -34,14 +34,14 @@ goes_on index limit step = if int_lt (pos 0) step then int_le index limit else i
 
 -- what is asked by a loop, or a call that gives it
 pub data Iteration : Type 0 where
-  Asks : (generator state control : Value) → Iteration
+  Generates : (generator state control : Value) → Iteration
   CallsIter : (callee : Value) → (arguments : List Value) → Iteration
   NotIterable : (e : RunError) → Iteration
 
 -- without `__iter` a table is asked itself where it has `__call`, and else through `next`
 abbrev pub over_table : (call : Value) → TableRef → (state control : Value) → Iteration
-over_table Nil t state control = Asks (Native builtin.Next) (Table t) Nil
-over_table call t state control = Asks (Table t) state control
+over_table Nil t state control = Generates (Native builtin.Next) (Table t) Nil
+over_table call t state control = Generates (Table t) state control
 
 abbrev pub over : (iter call : Value) → TableRef → (state control : Value) → Iteration
 over Nil call t state control = over_table call t state control
@@ -50,8 +50,8 @@ over iter call t state control = CallsIter iter (Table t ∷ [])
 unfoldable pub iteration : Store → (generator state control : Value) → Iteration
 iteration s (Table t) state control =
     over (metamethod s (Table t) (codes "__iter")) (metamethod s (Table t) (codes "__call")) t state control
-iteration s (Closure i) state control = Asks (Closure i) state control
-iteration s (Native b) state control = Asks (Native b) state control
-iteration s (Host i) state control = Asks (Host i) state control
-iteration s (Wrap i) state control = Asks (Wrap i) state control
+iteration s (Closure i) state control = Generates (Closure i) state control
+iteration s (Native b) state control = Generates (Native b) state control
+iteration s (Host i) state control = Generates (Host i) state control
+iteration s (Wrap i) state control = Generates (Wrap i) state control
 iteration s v state control = NotIterable (IterateOver (kind_of v))
