@@ -66,3 +66,24 @@ module _ {V W : Type 0} (same : V → V → Bool) (is_nil : V → Bool) (nil : V
       by : (b : Bool) → cond b (Some (pairs.first_entry same' is_nil' nil' (map (of_pair h) es))) (pairs.entry_after same' is_nil' nil' (map (of_pair h) es) (h key)) ≡ option_map (option_map (of_pair h)) (cond b (Some (pairs.first_entry same is_nil nil es)) (pairs.entry_after same is_nil nil es key))
       by true = ap (λ o. Some o) (first_kept es)
       by false = after_kept es key f k
+
+module _ {V W : Type 0} (same : V → V → Bool) (is_nil : V → Bool) (nil : V) (number : ℤ → V) (same' : W → W → Bool) (is_nil' : W → Bool) (nil' : W) (number' : ℤ → W) (h : V → W) (Fits : V → Type 0) (same_kept : (a b : V) → Fits a → Fits b → same' (h a) (h b) ≡ same a b) (nil_kept : (a : V) → is_nil' (h a) ≡ is_nil a) (nil_is : h nil ≡ nil') (number_is : (z : ℤ) → h (number z) ≡ number' z) (number_fits : (z : ℤ) → Fits (number z)) where
+  pub item_kept : (es : List (V × V)) (k : ℤ) → AllFit Fits es → pairs.item same' is_nil' nil' number' (map (of_pair h) es) k ≡ h (pairs.item same is_nil nil number es k)
+  item_kept es k f =
+      ap (λ key. pairs.value_under same' is_nil' nil' (map (of_pair h) es) key) (sym (number_is k))
+      ∙ under_kept same is_nil nil same' is_nil' nil' h Fits same_kept nil_kept nil_is es (number k) f (number_fits k)
+
+  border_from_kept : (more : ℕ) (es : List (V × V)) (k : ℕ) → AllFit Fits es → pairs.border_from same' is_nil' nil' number' more (map (of_pair h) es) k ≡ pairs.border_from same is_nil nil number more es k
+  border_from_kept zero es k f = refl
+  border_from_kept (suc more) es k f =
+      ap (λ b. cond b k (pairs.border_from same' is_nil' nil' number' more (map (of_pair h) es) (suc k))) (ap is_nil' (item_kept es (pos (suc k)) f) ∙ nil_kept (pairs.item same is_nil nil number es (pos (suc k))))
+      ∙ ap (λ r. cond (is_nil (pairs.item same is_nil nil number es (pos (suc k)))) k r) (border_from_kept more es (suc k) f)
+
+  length_kept : (es : List (V × V)) → length (map (of_pair h) es) ≡ length es
+  length_kept [] = refl
+  length_kept (e ∷ es) = ap (λ n. suc n) (length_kept es)
+
+  pub border_kept : (es : List (V × V)) → AllFit Fits es → pairs.border same' is_nil' nil' number' (map (of_pair h) es) ≡ pairs.border same is_nil nil number es
+  border_kept es f =
+      ap (λ n. pairs.border_from same' is_nil' nil' number' n (map (of_pair h) es) 0) (length_kept es)
+      ∙ border_from_kept (length es) es 0 f
