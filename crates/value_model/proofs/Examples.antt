@@ -1,9 +1,8 @@
 -- What examples of calls are made of.
-use Rattle.std.proofs.Common.{ℕ, ℤ, pos, suc, Bool, true, false, List, [], ◌∷◌, ◌++◌}
+use Rattle.std.proofs.Common.{ℕ, pos, suc, true, false, List, [], ◌++◌}
 use Rattle.value_model.specs.declared.builtin.Builtin.{Builtin}
 use Rattle.whole_num.specs.declared.arithmetic.Stop.{Stop}
-use Rattle.std.specs.Prelude.{codes}
-use Rattle.value_model.specs.Values.{Bytes, Value, Nil, Boolean, Number, Text, Table, Own}
+use Rattle.value_model.specs.Values.{Bytes, Value, Boolean, Number, Text, Table, Own}
 use Rattle.value_model.specs.Store.{Store, TableOf, empty_table, table_at}
 use Rattle.value_model.specs.Tables.{put_all}
 use Rattle.value_model.specs.Errors.{error_text}

@@ -1,5 +1,5 @@
 -- Texts that are joined of pieces.
-use Rattle.std.proofs.Common.{◌≡◌, ◌++◌, ◌∙◌, ap, refl, subst, take, ℕ, zero, suc, List, [], ◌∷◌, ◌+◌, ◌<◌, length, get_or, arith}
+use Rattle.std.proofs.Common.{◌≡◌, ◌++◌, ◌∙◌, ap, refl, subst, take, ℕ, zero, suc, List, [], ◌∷◌, ◌<◌, length, get_or, arith}
 use Rattle.std.specs.Prelude.{Result, IfOk}
 use Rattle.std.specs.declared.alloc.Global.{Global}
 use Rattle.std.specs.declared.vec.Vec.{Vec}

@@ -1,9 +1,9 @@
 -- Examples of `table`, and the walk and border of tables, computed.
-use Rattle.std.proofs.Common.{◌≡◌, ℕ, ℤ, pos, negsuc, List, [], ◌∷◌, ◌++◌, refl, Some, None, Option, Bool, true, false}
+use Rattle.std.proofs.Common.{◌≡◌, negsuc, List, [], ◌∷◌, refl, Some, true}
 use Rattle.std.specs.Prelude.{codes}
-use Rattle.value_model.specs.Values.{Bytes, TableRef, Shared, Own, Value, Nil, Boolean, Number, Text, Table, Closure, Native, Host, Wrap, Thread, kind_of, is_true}
+use Rattle.value_model.specs.Values.{Own, Nil, Number, kind_of, is_true}
 use Rattle.value_model.specs.Tables.{same, get, set, put, border, next_entry}
-use Rattle.value_model.specs.Store.{Store, TableOf, table_at, with_table}
+use Rattle.value_model.specs.Store.{TableOf, table_at, with_table}
 use Rattle.whole_num.specs.NumberTexts.{read_number, read_with_base}
 use Rattle.value_model.specs.Metamethods.{index, newindex, arith, choose, is_function, metamethod, as_number, compare, callee_of, concat_two, length_of}
 use Rattle.value_model.specs.Names.{name_of, text_of, as_plain}
@@ -15,13 +15,10 @@ use Rattle.value_model.specs.CoroutineRows.{coroutine_of, with_coroutine}
 use Rattle.value_model.specs.Loops.{bounds, goes_on, iteration}
 use Rattle.value_model.specs.Fresh.{fresh, look}
 use Rattle.std.specs.Fmt.{digits}
-use Rattle.value_model.specs.declared.builtin.Builtin.{Builtin}
 use Rattle.value_model.specs.declared.builtin.Builtin.TheVariants as f
-use Rattle.value_model.proofs.Examples.{n, t, nothing, yes, no, start, tables, own, list_of, call, given, entries_after, Came, Gave, Failed, Halted, Raised, Printed, Asked, Moved, Looks}
+use Rattle.value_model.proofs.Examples.{n, t, yes, no, own, list_of, call, entries_after, Gave, Failed, Halted}
 use Rattle.value_model.specs.Store.{empty_table}
-use Rattle.value_model.specs.Waits.{ByError, Elsewise}
-use Rattle.whole_num.specs.declared.arithmetic.Stop.TheVariants.{NotWhole, OutOfRange}
-use Rattle.value_model.specs.Answers.{Reads, Replaces, Innermost, OfFunction, OfScript, Resume, Yield, Close}
+use Rattle.whole_num.specs.declared.arithmetic.Stop.TheVariants.{OutOfRange}
 
 -- a table whose metatable hides itself, and one without a metatable
 abbrev shielded : List TableOf

@@ -1,7 +1,7 @@
 -- Examples of calls and of what waits for them, computed.
-use Rattle.std.proofs.Common.{◌≡◌, ℕ, ℤ, pos, negsuc, List, [], ◌∷◌, ◌++◌, refl, Some, None, Option, Bool, true, false}
+use Rattle.std.proofs.Common.{◌≡◌, pos, List, [], ◌∷◌, ◌++◌, refl, Some, None, true, false}
 use Rattle.std.specs.Prelude.{codes}
-use Rattle.value_model.specs.Values.{Bytes, TableRef, Shared, Own, Value, Nil, Boolean, Number, Text, Table, Closure, Native, Host, Wrap, Thread, kind_of, is_true}
+use Rattle.value_model.specs.Values.{Shared, Own, Value, Nil, Table, Closure, Native, Host, Wrap, Thread, kind_of, is_true}
 use Rattle.value_model.specs.Tables.{same, get, set, put, border, next_entry}
 use Rattle.value_model.specs.Store.{Store, TableOf, table_at, with_table}
 use Rattle.whole_num.specs.NumberTexts.{read_number, read_with_base}
@@ -15,28 +15,20 @@ use Rattle.value_model.specs.CoroutineRows.{coroutine_of, with_coroutine}
 use Rattle.value_model.specs.Loops.{bounds, goes_on, iteration}
 use Rattle.value_model.specs.Fresh.{fresh, look}
 use Rattle.std.specs.Fmt.{digits}
-use Rattle.value_model.specs.declared.builtin.Builtin.{Builtin}
 use Rattle.value_model.specs.declared.builtin.Builtin.TheVariants as f
-use Rattle.value_model.proofs.Examples.{n, t, nothing, yes, no, start, tables, own, list_of, call, given, entries_after, Came, Gave, Failed, Halted, Raised, Printed, Asked, Moved, Looks}
+use Rattle.value_model.proofs.Examples.{n, t, yes, no, start, tables, own}
 use Rattle.value_model.specs.Store.{empty_table}
 use Rattle.value_model.specs.Waits.{ByError, Elsewise}
-use Rattle.whole_num.specs.declared.arithmetic.Stop.TheVariants.{NotWhole, OutOfRange}
-use Rattle.value_model.specs.Answers.{Reads, Replaces, Innermost, OfFunction, OfScript, Resume, Yield, Close}
+use Rattle.whole_num.specs.declared.arithmetic.Stop.TheVariants.{NotWhole}
 use Rattle.value_model.specs.declared.kind.Kind.TheVariants as kind
-use Rattle.value_model.specs.declared.operator.ArithOp.TheVariants as op
-use Rattle.value_model.specs.declared.operator.CompareOp.TheVariants as order
-use Rattle.value_model.specs.declared.error.LoopBound.TheVariants as bound
 use Rattle.value_model.specs.declared.error.Wanted.TheVariants as wanted
-use Rattle.value_model.specs.Errors.{IndexWithName, IndexWith, CallOf, Arithmetic, Concatenate, CompareLess, CompareLessOrEqual, LengthOf, IterateOver, ReadonlyTable, NilKey, UnknownKey, IndexChain, NewindexChain, ForBound, MissingArgument, InvalidArgument, ArgumentOutOfRange, InvalidDirective, ProtectedMetatable, FixedEnvironment, DeadCoroutine, NotSuspended, CloseRunning, YieldOutside, AssertionFailed, NotStringByTostring, StringTooLarge, TooManyValues, InvalidElement, NoReply}
-use Rattle.value_model.specs.Choices.{Operation, Index, Newindex, Arith, Compare, Concat, Length, Callee, Outcome, Done, CallThis, Errs, Halts}
-use Rattle.value_model.specs.Waits.{Wait, Runs, Protects, Guards, Handles, Resumes, Asks, Waits, Caller, ByScript, ByLibrary, Case, Called, Given, Passed, Thrown, Fails, Raises, Answer, Gives, Enters, Calls, Throws, Stops, Finishes, Dies, Waited, waiting, value_thrown}
+use Rattle.value_model.specs.Errors.{CallOf, InvalidArgument, DeadCoroutine, CloseRunning, YieldOutside, NotStringByTostring, NoReply}
+use Rattle.value_model.specs.Choices.{Done}
+use Rattle.value_model.specs.Waits.{Runs, ByScript, ByLibrary, Case, Called, Given, Passed, Fails, Raises, Answer, Gives, Enters, Calls, Throws, Stops, Finishes, Dies, Waited, value_thrown}
 use Rattle.value_model.specs.declared.event.EventKind.TheVariants as event
-use Rattle.value_model.specs.declared.event.Reply.{Reply}
 use Rattle.value_model.specs.declared.event.Reply.TheVariants as answered
 use Rattle.value_model.specs.declared.plain.Plain.TheVariants as plain
 use Rattle.value_model.specs.Fresh.{first_waits, NoField, Field, HostPlain, HostFunction, HostTable}
-use Rattle.value_model.specs.Store.{CoroutineOf}
-use Rattle.value_model.specs.declared.kind.CoStatus.TheVariants.{Running, Suspended, Normal, Dead}
 
 -- one step from a script's start with these tables
 abbrev first : List TableOf → Case → Waited

@@ -1,12 +1,12 @@
 -- The bounds of a numeric `for`, and the beginning of a generic one.
-use Rattle.std.specs.Prelude.{ℕ, ℤ, pos, int_lt, int_le, Bool, true, false, List, [], ◌∷◌, Option, Some, None, Result, Ok, Err, codes, if◌then◌else◌}
+use Rattle.std.specs.Prelude.{ℤ, pos, int_lt, int_le, Bool, List, [], ◌∷◌, Option, Some, None, Result, Ok, Err, codes, if◌then◌else◌}
 use Rattle.value_model.specs.declared.builtin.Builtin.TheVariants as builtin
 use Rattle.whole_num.specs.declared.arithmetic.Stop.{Stop}
 use Rattle.value_model.specs.declared.error.LoopBound.{LoopBound}
 use Rattle.value_model.specs.declared.error.LoopBound.TheVariants.{Initial, Limit, Step}
-use Rattle.value_model.specs.Values.{Value, Nil, Text, Table, Closure, Native, Host, Wrap, TableRef, Bytes, kind_of}
+use Rattle.value_model.specs.Values.{Value, Nil, Table, Closure, Native, Host, Wrap, TableRef, kind_of}
 use Rattle.value_model.specs.Errors.{RunError, IterateOver, ForBound}
-use Rattle.value_model.specs.Store.{Store, TableOf, table_at}
+use Rattle.value_model.specs.Store.{Store}
 use Rattle.value_model.specs.Metamethods.{as_number, metamethod}
 
 -- the bounds are numbers, or the first that is none is refused, or the first that has no whole value stops the script

@@ -1,5 +1,5 @@
 -- What a value is called: its name, which says as much of it as a text may tell, and its plain text.
-use Rattle.std.specs.Prelude.{ℕ, zero, suc, ℤ, Bool, true, false, List, [], ◌∷◌, ◌++◌, Option, Some, None, codes, decimal, slice_index_or, if◌then◌else◌}
+use Rattle.std.specs.Prelude.{ℕ, zero, suc, Bool, true, false, List, [], ◌∷◌, ◌++◌, Option, Some, None, codes, decimal, slice_index_or, if◌then◌else◌}
 use Rattle.std.specs.Fmt.{signed_decimal}
 use Rattle.value_model.specs.declared.builtin.Builtin.{Builtin}
 use Rattle.value_model.specs.declared.builtin.Builtin.TheVariants as builtin

@@ -1,7 +1,6 @@
 -- What a program keeps, as the meanings know it: the number of a text gives way to its bytes, and of an object's number its place is
 -- left.
 use Rattle.std.specs.Prelude.{ℕ, ◌<◌, List, [], length, slice_index_or}
-use Rattle.value_model.specs.declared.builtin.Builtin.{Builtin}
 use Rattle.value_model.specs.declared.error.RunErr.{RunErr}
 use Rattle.value_model.specs.declared.error.RunErr.TheVariants as err
 use Rattle.value_model.specs.declared.error.Wanted.TheVariants.{PlainValue}

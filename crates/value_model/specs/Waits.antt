@@ -5,7 +5,6 @@ use Rattle.whole_num.specs.declared.arithmetic.Stop.{Stop}
 use Rattle.value_model.specs.Values.{Bytes, TableRef, Value, Text}
 use Rattle.value_model.specs.Errors.{RunError, error_text}
 use Rattle.value_model.specs.Store.{Store, here}
-use Rattle.value_model.specs.declared.plain.Plain.{Plain}
 use Rattle.value_model.specs.declared.event.EventKind.{EventKind}
 use Rattle.value_model.specs.Names.{Name}
 

@@ -5,7 +5,7 @@ use Rattle.value_model.specs.declared.kind.Kind.{Kind}
 use Rattle.value_model.specs.declared.operator.ArithOp.{ArithOp}
 use Rattle.value_model.specs.declared.operator.ArithOp.TheVariants as op
 use Rattle.value_model.specs.Values.{kind_name}
-use Rattle.value_model.specs.Errors.{operands, operator_name, error_text, Arithmetic}
+use Rattle.value_model.specs.Errors.{operands, operator_name, error_text}
 use Rattle.value_model.proofs.Pieces.{both, reads}
 use Rattle.value_model.proofs.error.arithmetic.Goals as goal
 

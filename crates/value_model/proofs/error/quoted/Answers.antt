@@ -1,4 +1,4 @@
-use Rattle.std.proofs.Common.{◌≡◌, ◌++◌, ◌∷◌, [], ap, ◌∙◌}
+use Rattle.std.proofs.Common.{◌++◌, ◌∷◌, [], ap, ◌∙◌}
 use Rattle.value_model.specs.Errors.{error_text}
 use Rattle.value_model.proofs.Pieces.{both}
 use Rattle.value_model.proofs.error.quoted.Goals as goal

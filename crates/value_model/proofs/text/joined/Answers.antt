@@ -1,4 +1,4 @@
-use Rattle.std.proofs.Common.{◌≡◌, ◌++◌, ◌+◌, ◌∙◌, suc, ap, [], take, arith}
+use Rattle.std.proofs.Common.{◌≡◌, ◌+◌, ◌∙◌, suc, ap, [], arith}
 use Rattle.std.proofs.lemmas.List.{take_all}
 use Rattle.value_model.specs.Pieces.{followed_by}
 use Rattle.value_model.proofs.Pieces.{one_more}
