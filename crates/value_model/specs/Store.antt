@@ -39,7 +39,7 @@ pub record Store : Type 0 where
   pub running : Option ℕ
 
 -- All objects of a script. The body of each Luau function stands beside its environment, at the same place: a function's syntax
--- with its variables in the meaning of source, the number of a prototype with its cells in that of code. No operation on values
+-- with its variables in the meaning of source, the number of its code with its cells in the meaning of code. No operation on values
 -- reads a body or a cell, so none is asked for them.
 pub record Objects (Body : Type 0) : Type 0 where
   pub store : Store
