@@ -6,8 +6,8 @@ use Rattle.code_link.specs.declared.item.Item.{Item}
 use Rattle.code_link.specs.declared.item.Item.TheVariants as item
 use Rattle.code_link.specs.Labels.{place_in}
 use Rattle.code_link.specs.Linking.{IsLinked}
-use Rattle.value_model.specs.declared.end.End.TheVariants.{Ended}
-use Rattle.value_model.proofs.Together as together
+use Rattle.built_values.specs.declared.end.End.TheVariants.{Ended}
+use Rattle.built_values.proofs.Together as together
 use Rattle.source_meaning.specs.States.{Done, ExecuteAll}
 use Rattle.source_meaning.specs.Runs as source
 use Rattle.machine_meaning.specs.declared.code.Constant.{Constant}

@@ -5,7 +5,7 @@ use Rattle.byte_text.specs.declared.fixed.StrId.{StrId}
 use Rattle.syntax_tree.specs.declared.tree.Stat.{Stat}
 use Rattle.machine_meaning.specs.declared.code.Constant.TheVariants as constant
 use Rattle.code_link.specs.declared.item.Item.{Item}
-use Rattle.value_model.specs.Globals.{print_name}
+use Rattle.built_values.specs.Globals.{print_name}
 use Rattle.emit_stat.specs.declared.draft.Draft.{Draft}
 use Rattle.emit_stat.specs.Form.{names_after, IsBlock}
 use Rattle.emit_stat.specs.Size.{stat_words, block_words}

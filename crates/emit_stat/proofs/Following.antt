@@ -22,14 +22,14 @@ use Rattle.op_words.specs.Decoding.{insn_at}
 use Rattle.code_link.specs.declared.item.Item.{Item}
 use Rattle.code_link.specs.declared.item.Item.TheVariants as item
 use Rattle.code_link.specs.Linking.{jumping}
-use Rattle.value_model.specs.declared.value.Value.{Value}
-use Rattle.value_model.specs.declared.value.Value.TheVariants as value
-use Rattle.value_model.specs.declared.end.End.{End}
-use Rattle.value_model.specs.declared.end.End.TheVariants.{Stuck, Stopped}
-use Rattle.value_model.specs.Runs.{Ends}
-use Rattle.value_model.specs.Operations.{Outcome, is_true, printed, equal, less, less_or_equal}
-use Rattle.value_model.specs.Globals.{print_name}
-use Rattle.value_model.proofs.Together as together
+use Rattle.built_values.specs.declared.value.Value.{Value}
+use Rattle.built_values.specs.declared.value.Value.TheVariants as value
+use Rattle.built_values.specs.declared.end.End.{End}
+use Rattle.built_values.specs.declared.end.End.TheVariants.{Stuck, Stopped}
+use Rattle.built_values.specs.Runs.{Ends}
+use Rattle.built_values.specs.Operations.{Outcome, is_true, printed, equal, less, less_or_equal}
+use Rattle.built_values.specs.Globals.{print_name}
+use Rattle.built_values.proofs.Together as together
 use Rattle.source_meaning.specs.States.{Environment, Frame, LeftOperand, RightOperand, Callee, Argument, Discards, Declares, Assigns, Chooses, Loops, Repeats, Continues, Restores, Focus, Evaluate, Give, Execute, ExecuteAll, Choose, Done, State}
 use Rattle.source_meaning.specs.Levels.{ExprLevel, StatLevel}
 use Rattle.source_meaning.specs.Steps as source

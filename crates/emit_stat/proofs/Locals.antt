@@ -8,8 +8,8 @@ use Rattle.std.proofs.Math.ListN.{get_or-append}
 use Rattle.std.proofs.Math.Seq.{get_or-append_seam}
 use Rattle.std.specs.Prelude.{slice_index_or, slice_set}
 use Rattle.byte_text.specs.declared.fixed.StrId.{StrId}
-use Rattle.value_model.specs.declared.value.Value.{Value}
-use Rattle.value_model.specs.declared.value.Value.TheVariants.{Nil}
+use Rattle.built_values.specs.declared.value.Value.{Value}
+use Rattle.built_values.specs.declared.value.Value.TheVariants.{Nil}
 use Rattle.source_meaning.specs.States.{Environment, cell_of}
 use Rattle.machine_meaning.specs.States.{Registers, put}
 use Rattle.emit_stat.specs.Form.{register_of}

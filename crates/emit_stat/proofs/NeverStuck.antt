@@ -22,15 +22,15 @@ use Rattle.syntax_tree.specs.declared.tree.ExprKind.TheViews as views
 use Rattle.syntax_tree.specs.declared.tree.Stat.{Stat}
 use Rattle.syntax_tree.specs.declared.tree.StatKind as stat
 use Rattle.syntax_tree.specs.declared.tree.StatKind.{out-StatKind}
-use Rattle.value_model.specs.declared.value.Value.{Value}
-use Rattle.value_model.specs.declared.value.Value.TheVariants as value
-use Rattle.value_model.specs.declared.end.End.{End}
-use Rattle.value_model.specs.declared.end.End.TheVariants.{Ended, Stopped, Unfinished, Stuck}
-use Rattle.value_model.specs.Runs.{Stamped, Report, Goes, Shows, Charges, Ends}
-use Rattle.value_model.specs.Operations.{Outcome, as_value, sum, difference, product, equal, less, less_or_equal, printed}
-use Rattle.value_model.specs.Globals.{print_name}
-use Rattle.value_model.proofs.Runs.{one_report}
-use Rattle.value_model.proofs.Together.{Comes, comes_by}
+use Rattle.built_values.specs.declared.value.Value.{Value}
+use Rattle.built_values.specs.declared.value.Value.TheVariants as value
+use Rattle.built_values.specs.declared.end.End.{End}
+use Rattle.built_values.specs.declared.end.End.TheVariants.{Ended, Stopped, Unfinished, Stuck}
+use Rattle.built_values.specs.Runs.{Stamped, Report, Goes, Shows, Charges, Ends}
+use Rattle.built_values.specs.Operations.{Outcome, as_value, sum, difference, product, equal, less, less_or_equal, printed}
+use Rattle.built_values.specs.Globals.{print_name}
+use Rattle.built_values.proofs.Runs.{one_report}
+use Rattle.built_values.proofs.Together.{Comes, comes_by}
 use Rattle.source_meaning.specs.Levels.{StatLevel}
 use Rattle.source_meaning.specs.States.{Environment, cell_of, Frame, LeftOperand, RightOperand, Callee, Argument, Discards, Declares, Assigns, Chooses, Loops, Repeats, Continues, Restores, Focus, Evaluate, Give, Execute, ExecuteAll, Choose, Done, State}
 use Rattle.source_meaning.specs.Steps as source

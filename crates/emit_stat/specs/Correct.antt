@@ -1,8 +1,8 @@
 -- What the compiler promises.
 use Rattle.std.specs.Prelude.{◌≢◌, ℕ, List, []}
 use Rattle.syntax_tree.specs.declared.tree.Stat.{Stat}
-use Rattle.value_model.specs.declared.end.End.TheVariants.{Stuck}
-use Rattle.value_model.specs.Runs.{Report, Agree}
+use Rattle.built_values.specs.declared.end.End.TheVariants.{Stuck}
+use Rattle.built_values.specs.Runs.{Report, Agree}
 use Rattle.source_meaning.specs.Steps as source
 use Rattle.source_meaning.specs.Runs.{SourceRun}
 use Rattle.machine_meaning.specs.declared.code.Constant.{Constant}

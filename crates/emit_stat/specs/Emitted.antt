@@ -9,7 +9,7 @@ use Rattle.op_words.specs.declared.insn.Insn.TheVariants as insn
 use Rattle.code_link.specs.declared.item.Item.{Item}
 use Rattle.code_link.specs.declared.item.Item.TheVariants as item
 use Rattle.code_link.specs.Labels.{is_jump, word_count, IsLinkable}
-use Rattle.value_model.specs.Globals.{print_name}
+use Rattle.built_values.specs.Globals.{print_name}
 use Rattle.machine_meaning.specs.declared.code.Constant.{Constant}
 use Rattle.machine_meaning.specs.declared.code.Constant.TheVariants as constant
 use Rattle.emit_stat.specs.declared.draft.Draft.{Draft}

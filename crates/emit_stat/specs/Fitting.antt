@@ -9,7 +9,7 @@ use Rattle.syntax_tree.specs.declared.tree.ExprKind as expr
 use Rattle.syntax_tree.specs.declared.tree.Stat.{Stat}
 use Rattle.syntax_tree.specs.Need.{need_expr, need_stat, block_from}
 use Rattle.syntax_tree.specs.Rules.{rules_stat, block}
-use Rattle.value_model.specs.Globals.{print_name}
+use Rattle.built_values.specs.Globals.{print_name}
 use Rattle.emit_stat.specs.Form.{register_of, IsArithmetic, IsCondition, IsBlock}
 use Rattle.emit_stat.specs.Emitted.{IsTarget}
 

@@ -13,7 +13,7 @@ use Rattle.syntax_tree.specs.declared.tree.StatKind as stat
 use Rattle.syntax_tree.specs.declared.tree.StatKind.{out-StatKind}
 use Rattle.op_words.specs.declared.insn.Insn.{Insn}
 use Rattle.op_words.specs.declared.insn.Insn.TheVariants as insn
-use Rattle.value_model.specs.Globals.{print_name}
+use Rattle.built_values.specs.Globals.{print_name}
 use Rattle.source_meaning.specs.Levels.{StatLevel}
 
 -- the register of the newest local of the name. The names are the newest first, and the registers count from the oldest

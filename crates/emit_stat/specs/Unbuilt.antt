@@ -15,7 +15,7 @@ use Rattle.syntax_tree.specs.declared.tree.ExprKind.TheOpen as level
 use Rattle.syntax_tree.specs.declared.tree.ExprKind.TheOpen.{ExprKind-F, StatKind-F, Arm-F, Expr-F, Stat-F}
 use Rattle.syntax_tree.specs.declared.tree.Stat.{Stat}
 use Rattle.syntax_tree.specs.Fold.{Steps, at_expr, at_stat, at_arm}
-use Rattle.value_model.specs.Globals.{print_name}
+use Rattle.built_values.specs.Globals.{print_name}
 use Rattle.emit_stat.specs.Form.{register_of, operation, unless}
 
 -- the place of the first node that is not built, if there is one, where these names are in scope

@@ -3,9 +3,9 @@ use Rattle.std.proofs.Common.{◌≡◌, ◌≢◌, ◌∙◌, ℕ, List, Result
 use Rattle.resource.specs.declared.memory.OutOfMemory.{OutOfMemory}
 use Rattle.syntax_tree.specs.declared.tree.Stat.{Stat}
 use Rattle.syntax_tree.specs.declared.tree.Tree.{Tree}
-use Rattle.value_model.specs.declared.end.End.{End}
-use Rattle.value_model.specs.declared.end.End.TheVariants.{Ended, Stopped, Unfinished, Stuck}
-use Rattle.value_model.specs.Runs.{Report}
+use Rattle.built_values.specs.declared.end.End.{End}
+use Rattle.built_values.specs.declared.end.End.TheVariants.{Ended, Stopped, Unfinished, Stuck}
+use Rattle.built_values.specs.Runs.{Report}
 use Rattle.machine_meaning.specs.declared.code.Code.{Code}
 use Rattle.machine_meaning.specs.Steps.{Look}
 use Rattle.machine_meaning.specs.Runs.{MachineRun}

@@ -10,7 +10,7 @@ use Rattle.outside_io.specs.declared.reading.ReadErr.{ReadErr}
 use Rattle.outside_io.specs.declared.reading.ReadErr.TheVariants.{Missing, ReadFault, TooLarge}
 use Rattle.outside_io.specs.declared.writing.WriteErr.{WriteErr}
 use Rattle.syntax_tree.specs.declared.tree.Tree.{Tree}
-use Rattle.value_model.specs.declared.end.End.{End}
+use Rattle.built_values.specs.declared.end.End.{End}
 use Rattle.luau_vm.specs.Shown.{line_of}
 use Rattle.luau_cli.specs.Command.{RunFile}
 use Rattle.luau_cli.specs.Answer.{Answer, refusal, usage, size_limit, HasRun, IsReported, AnswersScript, AnswersFile, Answers, RunsScript}

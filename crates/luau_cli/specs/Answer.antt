@@ -5,9 +5,9 @@ use Rattle.resource.specs.Faults.{Rose}
 use Rattle.whole_num.specs.declared.arithmetic.Stop.{Stop}
 use Rattle.whole_num.specs.Whole.{stop_text}
 use Rattle.syntax_tree.specs.declared.tree.Tree.{Tree}
-use Rattle.value_model.specs.declared.end.End.{End}
-use Rattle.value_model.specs.declared.end.End.TheVariants.{Ended, Stopped, Unfinished}
-use Rattle.value_model.specs.Runs.{Report}
+use Rattle.built_values.specs.declared.end.End.{End}
+use Rattle.built_values.specs.declared.end.End.TheVariants.{Ended, Stopped, Unfinished}
+use Rattle.built_values.specs.Runs.{Report}
 use Rattle.source_meaning.specs.Steps.{Look}
 use Rattle.source_meaning.specs.Runs.{SourceRun}
 use Rattle.luau_vm.specs.Shown.{line_of, lines_of}

@@ -1,7 +1,7 @@
 //! The reply to one script.
 
 ghost use Rattle.std.specs.Prelude.{◌≡◌, ℕ, List, IfOk};
-ghost use Rattle.value_model.specs.declared.end.End.{End};
+ghost use Rattle.built_values.specs.declared.end.End.{End};
 ghost use Rattle.luau_vm.specs.Shown.{line_of};
 ghost use Rattle.luau_cli.specs.Answer.{refusal, refusal_text, AnswersScript, IsProper, IsReported};
 ghost use Rattle.luau_cli.specs.Refusals.{cause_of};
@@ -10,11 +10,11 @@ ghost use Rattle.luau_cli.specs.Making.{answer_of};
 use crate::refusal::Refusal;
 use crate::reply::{Reply, SPENT, line};
 use crate::script::{Reading, read_script};
+use built_values::End;
 use emit_stat::compile;
 use luau_vm::{Ran, run};
 use resource::OutOfMemory;
 use std::alloc::Global;
-use value_model::End;
 
 const ENDED: u8 = 0;
 

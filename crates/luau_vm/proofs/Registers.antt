@@ -4,7 +4,7 @@ use Rattle.std.specs.Prelude.{slice_index_or}
 use Rattle.std.proofs.lemmas.List.{get_or-replicate, get_or_past}
 use Rattle.std.proofs.lemmas.Bool.{cases_lt}
 use mathlib.Core.Path.{fun_ext}
-use Rattle.value_model.specs.declared.value.Value.TheVariants.{Nil}
+use Rattle.built_values.specs.declared.value.Value.TheVariants.{Nil}
 use Rattle.machine_meaning.specs.States.{start}
 use Rattle.luau_vm.specs.Moves.{registers_of}
 

@@ -5,13 +5,13 @@ use Rattle.std.proofs.lemmas.List.{append-nil}
 use Rattle.op_words.specs.declared.insn.Insn.{Insn}
 use Rattle.op_words.specs.declared.insn.Insn.TheVariants.{PrepVarargs, LoadN, LoadK, Move as MoveInsn, GetGlobal, Call, Return, Jump, JumpBack, JumpIfEq, JumpIfLe, JumpIfLt, JumpIfNotEq, JumpIfNotLe, JumpIfNotLt, Add, Sub, Mul}
 use Rattle.op_words.specs.Decoding.{insn_at}
-use Rattle.value_model.specs.declared.value.Value.{Value}
-use Rattle.value_model.specs.declared.value.Value.TheVariants as value
-use Rattle.value_model.specs.declared.end.End.{End}
-use Rattle.value_model.specs.declared.end.End.TheVariants.{Stuck, Unfinished}
-use Rattle.value_model.specs.Runs.{Stamped, Report, Goes, Shows, Charges, Ends, after, run}
-use Rattle.value_model.specs.Operations.{Outcome}
-use Rattle.value_model.proofs.Together.{Comes}
+use Rattle.built_values.specs.declared.value.Value.{Value}
+use Rattle.built_values.specs.declared.value.Value.TheVariants as value
+use Rattle.built_values.specs.declared.end.End.{End}
+use Rattle.built_values.specs.declared.end.End.TheVariants.{Stuck, Unfinished}
+use Rattle.built_values.specs.Runs.{Stamped, Report, Goes, Shows, Charges, Ends, after, run}
+use Rattle.built_values.specs.Operations.{Outcome}
+use Rattle.built_values.proofs.Together.{Comes}
 use Rattle.machine_meaning.specs.declared.code.Constant.{Constant}
 use Rattle.machine_meaning.specs.declared.code.Constant.TheVariants as constant
 use Rattle.machine_meaning.specs.States.{Registers, State, start}

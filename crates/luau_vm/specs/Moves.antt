@@ -1,8 +1,8 @@
 -- What the machine does at a move of its meaning.
 use Rattle.std.specs.Prelude.{◌≡◌, ℕ, List, ◌++◌, slice_index_or}
-use Rattle.value_model.specs.declared.value.Value.{Value}
-use Rattle.value_model.specs.declared.value.Value.TheVariants.{Nil}
-use Rattle.value_model.specs.Runs.{Goes, Shows, Charges, Ends}
+use Rattle.built_values.specs.declared.value.Value.{Value}
+use Rattle.built_values.specs.declared.value.Value.TheVariants.{Nil}
+use Rattle.built_values.specs.Runs.{Goes, Shows, Charges, Ends}
 use Rattle.machine_meaning.specs.States.{Registers}
 use Rattle.machine_meaning.specs.Steps.{Step}
 use Rattle.luau_vm.specs.declared.machine.Machine.{Machine}

@@ -1,7 +1,7 @@
 -- What is shown of a run when it is over.
 use Rattle.std.specs.Prelude.{◌≡◌, ℕ, List, [], ◌∷◌, ◌++◌}
 use Rattle.std.specs.List.{flat_map}
-use Rattle.value_model.specs.Runs.{Stamped, Report}
+use Rattle.built_values.specs.Runs.{Stamped, Report}
 use Rattle.machine_meaning.specs.Steps.{Look}
 use Rattle.luau_vm.specs.declared.running.Ran.{Ran}
 

@@ -3,8 +3,8 @@
 ghost use Rattle.std.specs.Prelude.{◌≡◌, ◌+◌, ◌^◌, ◌<◌, ◌++◌, pos, ◌+ℤ◌, [], nat_eq, not, option_map, slice_get, IfOk, OnOk};
 ghost use Rattle.std.specs.Fmt.{signed_decimal};
 ghost use Rattle.op_words.specs.declared.insn.Insn.{Insn};
-ghost use Rattle.value_model.specs.declared.value.Value.{Value};
-ghost use Rattle.value_model.specs.Operations.{as_value, equal, less, less_or_equal};
+ghost use Rattle.built_values.specs.declared.value.Value.{Value};
+ghost use Rattle.built_values.specs.Operations.{as_value, equal, less, less_or_equal};
 ghost use Rattle.machine_meaning.specs.States.{put, start};
 ghost use Rattle.machine_meaning.specs.Steps.{at, branch, call, charge, constant_at, fetch, give, jump, leave, load, row};
 ghost use Rattle.luau_vm.specs.Shown.{line_of};
@@ -12,12 +12,12 @@ ghost use Rattle.luau_vm.specs.Moves.{registers_of, Makes};
 
 use crate::operations::{difference, equal, less, less_or_equal, product, sum};
 use crate::running::Ran;
+use built_values::{End, Value};
 use byte_text::StrId;
 use machine_meaning::Constant;
 use op_words::Insn;
 use resource::OutOfMemory;
 use std::alloc::Global;
-use value_model::{End, Value};
 use whole_num::{Stop, Whole, print_into};
 
 /// What an instruction did: it leads to a place, it leads there once a turn is charged, or the code ends.
@@ -192,7 +192,7 @@ impl Machine {
     }
 
     // Only `print` is called, with one number and for no result.
-    #[tactic(auto, unfolding(value_model::specs::Operations::printed))]
+    #[tactic(auto, unfolding(built_values::specs::Operations::printed))]
     fn call(
         &mut self,
         base: u8,

@@ -1,12 +1,12 @@
 //! Operations on values. There is none where one of the two is no number.
 
 ghost use Rattle.std.specs.Prelude.{◌≡◌, option_map};
-ghost use Rattle.value_model.specs.Operations.{as_value, sum, difference, product, equal, less, less_or_equal};
+ghost use Rattle.built_values.specs.Operations.{as_value, sum, difference, product, equal, less, less_or_equal};
 
-use value_model::Value;
+use built_values::Value;
 use whole_num::{Stop, Whole};
 
-#[tactic(auto, unfolding(value_model::specs::Operations::sum))]
+#[tactic(auto, unfolding(built_values::specs::Operations::sum))]
 pub(crate) fn sum(left: Value, right: Value) -> Option<Result<Whole, Stop>>
     ensures { option_map as_value result ≡ sum left right }
 {
@@ -16,7 +16,7 @@ pub(crate) fn sum(left: Value, right: Value) -> Option<Result<Whole, Stop>>
     }
 }
 
-#[tactic(auto, unfolding(value_model::specs::Operations::difference))]
+#[tactic(auto, unfolding(built_values::specs::Operations::difference))]
 pub(crate) fn difference(left: Value, right: Value) -> Option<Result<Whole, Stop>>
     ensures { option_map as_value result ≡ difference left right }
 {
@@ -26,7 +26,7 @@ pub(crate) fn difference(left: Value, right: Value) -> Option<Result<Whole, Stop
     }
 }
 
-#[tactic(auto, unfolding(value_model::specs::Operations::product))]
+#[tactic(auto, unfolding(built_values::specs::Operations::product))]
 pub(crate) fn product(left: Value, right: Value) -> Option<Result<Whole, Stop>>
     ensures { option_map as_value result ≡ product left right }
 {
@@ -36,7 +36,7 @@ pub(crate) fn product(left: Value, right: Value) -> Option<Result<Whole, Stop>>
     }
 }
 
-#[tactic(auto, unfolding(value_model::specs::Operations::equal))]
+#[tactic(auto, unfolding(built_values::specs::Operations::equal))]
 pub(crate) fn equal(left: Value, right: Value) -> Option<bool>
     ensures { result ≡ equal left right }
 {
@@ -46,7 +46,7 @@ pub(crate) fn equal(left: Value, right: Value) -> Option<bool>
     }
 }
 
-#[tactic(auto, unfolding(value_model::specs::Operations::less))]
+#[tactic(auto, unfolding(built_values::specs::Operations::less))]
 pub(crate) fn less(left: Value, right: Value) -> Option<bool>
     ensures { result ≡ less left right }
 {
@@ -56,7 +56,7 @@ pub(crate) fn less(left: Value, right: Value) -> Option<bool>
     }
 }
 
-#[tactic(auto, unfolding(value_model::specs::Operations::less_or_equal))]
+#[tactic(auto, unfolding(built_values::specs::Operations::less_or_equal))]
 pub(crate) fn less_or_equal(left: Value, right: Value) -> Option<bool>
     ensures { result ≡ less_or_equal left right }
 {

@@ -1,17 +1,17 @@
 //! Runs of code.
 
 ghost use Rattle.std.specs.Prelude.{◌≡◌, IfOk, ℕ, List};
-ghost use Rattle.value_model.specs.Runs.{Report};
+ghost use Rattle.built_values.specs.Runs.{Report};
 ghost use Rattle.machine_meaning.specs.Steps.{Look};
 ghost use Rattle.machine_meaning.specs.Runs.{MachineRun};
 ghost use Rattle.luau_vm.specs.Shown.{Shows};
 
 use crate::machine::{Here, Machine, Moved};
+use built_values::End;
 use machine_meaning::Code;
 use op_words::decode;
 use resource::OutOfMemory;
 use std::alloc::Global;
-use value_model::End;
 
 /// What a run printed, and how it ended.
 #[derive(Drop)]

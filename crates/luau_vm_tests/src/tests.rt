@@ -1,9 +1,9 @@
+use built_values::End;
 use byte_text::StrId;
 use luau_vm::{Ran, run};
 use machine_meaning::{Code, Constant};
 use std::alloc::Global;
 use std::test::Fail;
-use value_model::End;
 use whole_num::{Stop, Whole};
 
 // Runs words, with a number as constant 0 and `print` as constant 1.

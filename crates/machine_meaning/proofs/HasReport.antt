@@ -1,8 +1,8 @@
 -- A run of code has a report: it charges a turn after as many moves as there are words behind its place, or is over.
 use Rattle.std.proofs.Common.{◌≡◌, refl, ap, ◌∙◌, ℕ, zero, suc, ◌+◌, ◌<◌, ◌≤◌, List, [], ◌∷◌, ◌++◌, length, Some, subst, arith}
-use Rattle.value_model.specs.declared.end.End.TheVariants.{Stuck, Unfinished}
-use Rattle.value_model.specs.Runs.{Stamped, Report, Goes, Shows, Charges, Ends, after, run}
-use Rattle.value_model.proofs.Together.{Comes, comes_by}
+use Rattle.built_values.specs.declared.end.End.TheVariants.{Stuck, Unfinished}
+use Rattle.built_values.specs.Runs.{Stamped, Report, Goes, Shows, Charges, Ends, after, run}
+use Rattle.built_values.proofs.Together.{Comes, comes_by}
 use Rattle.machine_meaning.specs.declared.code.Constant.{Constant}
 use Rattle.machine_meaning.specs.States.{State, start}
 use Rattle.machine_meaning.specs.Steps.{Look, Step, step}

@@ -5,11 +5,11 @@ use Rattle.op_words.specs.declared.insn.Insn.{Insn}
 use Rattle.op_words.specs.declared.insn.Insn.TheVariants.{PrepVarargs, LoadN, LoadK, Move as MoveInsn, GetGlobal, Call, Return, Jump, JumpBack, JumpIfEq, JumpIfLe, JumpIfLt, JumpIfNotEq, JumpIfNotLe, JumpIfNotLt, Add, Sub, Mul}
 use Rattle.op_words.specs.Encoding.{encoded}
 use Rattle.op_words.specs.Decoding.{insn_of, parts_of, with_next, insn_at}
-use Rattle.value_model.specs.declared.value.Value.{Value}
-use Rattle.value_model.specs.declared.value.Value.TheVariants as value
-use Rattle.value_model.specs.declared.end.End.TheVariants.{Stuck}
-use Rattle.value_model.specs.Runs.{Goes, Shows, Charges, Ends}
-use Rattle.value_model.specs.Operations.{Outcome}
+use Rattle.built_values.specs.declared.value.Value.{Value}
+use Rattle.built_values.specs.declared.value.Value.TheVariants as value
+use Rattle.built_values.specs.declared.end.End.TheVariants.{Stuck}
+use Rattle.built_values.specs.Runs.{Goes, Shows, Charges, Ends}
+use Rattle.built_values.specs.Operations.{Outcome}
 use Rattle.machine_meaning.specs.declared.code.Constant.{Constant}
 use Rattle.machine_meaning.specs.declared.code.Constant.TheVariants as constant
 use Rattle.machine_meaning.specs.States.{Registers, State}

@@ -1,6 +1,6 @@
 -- What holds of every run of code.
 use Rattle.std.specs.Prelude.{◌≡◌, ℕ, List}
-use Rattle.value_model.specs.Runs.{Report}
+use Rattle.built_values.specs.Runs.{Report}
 use Rattle.machine_meaning.specs.declared.code.Constant.{Constant}
 use Rattle.machine_meaning.specs.Steps.{Look}
 use Rattle.machine_meaning.specs.Runs.{MachineRun}

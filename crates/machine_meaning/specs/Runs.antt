@@ -1,6 +1,6 @@
 -- The run of code.
 use Rattle.std.specs.Prelude.{ℕ, List}
-use Rattle.value_model.specs.Runs.{Report, Reports}
+use Rattle.built_values.specs.Runs.{Report, Reports}
 use Rattle.machine_meaning.specs.declared.code.Constant.{Constant}
 use Rattle.machine_meaning.specs.States.{start}
 use Rattle.machine_meaning.specs.Steps.{Look, step}

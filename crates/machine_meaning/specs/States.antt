@@ -1,7 +1,7 @@
 -- The states of a machine that runs code.
 use Rattle.std.specs.Prelude.{ℕ, nat_eq, if◌then◌else◌}
-use Rattle.value_model.specs.declared.value.Value.{Value}
-use Rattle.value_model.specs.declared.value.Value.TheVariants.{Nil}
+use Rattle.built_values.specs.declared.value.Value.{Value}
+use Rattle.built_values.specs.declared.value.Value.TheVariants.{Nil}
 
 abbrev pub Registers : Type 0
 Registers = ℕ → Value

@@ -3,12 +3,12 @@ use Rattle.std.specs.Prelude.{ℕ, ◌+◌, ℤ, pos, negsuc, ◌+ℤ◌, Bool, 
 use Rattle.op_words.specs.declared.insn.Insn.{Insn}
 use Rattle.op_words.specs.declared.insn.Insn.TheVariants.{PrepVarargs, LoadN, LoadK, Move as MoveInsn, GetGlobal, Call, Return, Jump, JumpBack, JumpIfEq, JumpIfLe, JumpIfLt, JumpIfNotEq, JumpIfNotLe, JumpIfNotLt, Add, Sub, Mul}
 use Rattle.op_words.specs.Decoding.{insn_at}
-use Rattle.value_model.specs.declared.value.Value.{Value}
-use Rattle.value_model.specs.declared.value.Value.TheVariants as value
-use Rattle.value_model.specs.declared.end.End.TheVariants.{Ended, Stopped, Stuck}
-use Rattle.value_model.specs.Runs.{Move, Goes, Shows, Charges, Ends}
-use Rattle.value_model.specs.Operations.{Outcome, sum, difference, product, equal, less, less_or_equal, printed}
-use Rattle.value_model.specs.Globals.{global}
+use Rattle.built_values.specs.declared.value.Value.{Value}
+use Rattle.built_values.specs.declared.value.Value.TheVariants as value
+use Rattle.built_values.specs.declared.end.End.TheVariants.{Ended, Stopped, Stuck}
+use Rattle.built_values.specs.Runs.{Move, Goes, Shows, Charges, Ends}
+use Rattle.built_values.specs.Operations.{Outcome, sum, difference, product, equal, less, less_or_equal, printed}
+use Rattle.built_values.specs.Globals.{global}
 use Rattle.machine_meaning.specs.declared.code.Constant.{Constant}
 use Rattle.machine_meaning.specs.declared.code.Constant.TheVariants as constant
 use Rattle.machine_meaning.specs.States.{Registers, put, State}

@@ -1,7 +1,7 @@
 -- What holds of every run of a script.
 use Rattle.std.specs.Prelude.{◌≡◌, ℕ, List}
 use Rattle.syntax_tree.specs.declared.tree.Stat.{Stat}
-use Rattle.value_model.specs.Runs.{Report}
+use Rattle.built_values.specs.Runs.{Report}
 use Rattle.source_meaning.specs.Steps.{Look}
 use Rattle.source_meaning.specs.Runs.{SourceRun}
 

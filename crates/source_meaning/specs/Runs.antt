@@ -1,7 +1,7 @@
 -- The run of a script.
 use Rattle.std.specs.Prelude.{ℕ, List, []}
 use Rattle.syntax_tree.specs.declared.tree.Stat.{Stat}
-use Rattle.value_model.specs.Runs.{Report, Reports}
+use Rattle.built_values.specs.Runs.{Report, Reports}
 use Rattle.source_meaning.specs.States.{State, ExecuteAll}
 use Rattle.source_meaning.specs.Steps.{Look, step}
 

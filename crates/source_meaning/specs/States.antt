@@ -5,7 +5,7 @@ use Rattle.syntax_tree.specs.declared.tree.Arm.{Arm}
 use Rattle.syntax_tree.specs.declared.tree.BinOp.{BinOp}
 use Rattle.syntax_tree.specs.declared.tree.Expr.{Expr}
 use Rattle.syntax_tree.specs.declared.tree.Stat.{Stat}
-use Rattle.value_model.specs.declared.value.Value.{Value}
+use Rattle.built_values.specs.declared.value.Value.{Value}
 
 -- the variables in scope, each with its cell, the newest first
 abbrev pub Environment : Type 0

@@ -9,12 +9,12 @@ use Rattle.syntax_tree.specs.declared.tree.ExprKind.{out-ExprKind}
 use Rattle.syntax_tree.specs.declared.tree.ExprKind.TheOpen as level
 use Rattle.syntax_tree.specs.declared.tree.Stat.{Stat}
 use Rattle.syntax_tree.specs.declared.tree.StatKind.{out-StatKind}
-use Rattle.value_model.specs.declared.value.Value.{Value}
-use Rattle.value_model.specs.declared.value.Value.TheVariants as value
-use Rattle.value_model.specs.declared.end.End.TheVariants.{Ended, Stopped, Stuck}
-use Rattle.value_model.specs.Runs.{Move, Goes, Shows, Charges, Ends}
-use Rattle.value_model.specs.Operations.{Outcome, sum, difference, product, equal, less, less_or_equal, is_true, printed}
-use Rattle.value_model.specs.Globals.{global}
+use Rattle.built_values.specs.declared.value.Value.{Value}
+use Rattle.built_values.specs.declared.value.Value.TheVariants as value
+use Rattle.built_values.specs.declared.end.End.TheVariants.{Ended, Stopped, Stuck}
+use Rattle.built_values.specs.Runs.{Move, Goes, Shows, Charges, Ends}
+use Rattle.built_values.specs.Operations.{Outcome, sum, difference, product, equal, less, less_or_equal, is_true, printed}
+use Rattle.built_values.specs.Globals.{global}
 use Rattle.source_meaning.specs.Levels.{ExprLevel, StatLevel}
 use Rattle.source_meaning.specs.States.{Environment, cell_of, Frame, LeftOperand, RightOperand, Callee, Argument, Discards, Declares, Assigns, Chooses, Loops, Repeats, Continues, Restores, Focus, Evaluate, Give, Execute, ExecuteAll, Choose, Done, State}
 

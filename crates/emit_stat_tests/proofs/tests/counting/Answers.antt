@@ -9,7 +9,7 @@ use Rattle.syntax_tree.specs.declared.tree.ExprKind.TheFolds as folds
 use Rattle.syntax_tree.specs.declared.tree.ExprKind.TheViews as views
 use Rattle.syntax_tree.specs.declared.tree.Stat.{Stat}
 use Rattle.syntax_tree.specs.declared.tree.StatKind as stat
-use Rattle.value_model.specs.Globals.{print_name}
+use Rattle.built_values.specs.Globals.{print_name}
 use Rattle.emit_stat.specs.Form.{names_after, IsArithmetic, IsCondition, IsStatement, IsBlock, IsOther}
 use Rattle.emit_stat.specs.Size.{expr_words, stat_words, block_words}
 use Rattle.emit_stat.proofs.TreeForms.{names_after_local, names_after_assignment, names_after_call, names_after_branch, names_after_loop, words_of_number, words_of_name, words_of_result, words_of_print, words_of_local, words_of_assignment, words_of_call, words_of_branches, words_of_loop}

@@ -5,7 +5,7 @@ use Rattle.syntax_tree.specs.declared.tree.Expr.{Expr}
 use Rattle.syntax_tree.specs.declared.tree.ExprKind as expr
 use Rattle.syntax_tree.specs.declared.tree.Stat.{Stat}
 use Rattle.syntax_tree.specs.declared.tree.StatKind as stat
-use Rattle.value_model.specs.Globals.{print_name}
+use Rattle.built_values.specs.Globals.{print_name}
 use Rattle.emit_stat.specs.Form.{IsArithmetic, IsStatement, IsBlock}
 use Rattle.emit_stat.proofs.TreeForms.{names_after_local, names_after_call}
 use Rattle.emit_stat_tests.proofs.tests.line.Goals as goal

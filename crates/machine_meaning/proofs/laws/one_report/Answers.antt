@@ -1,5 +1,5 @@
 use Rattle.std.proofs.Common.{ℕ, List}
-use Rattle.value_model.proofs.Runs as runs
+use Rattle.built_values.proofs.Runs as runs
 use Rattle.machine_meaning.specs.States.{State, start}
 use Rattle.machine_meaning.specs.Steps.{Look, step}
 use Rattle.machine_meaning.proofs.laws.one_report.Goals as goal

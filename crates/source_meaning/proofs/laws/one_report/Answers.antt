@@ -1,5 +1,5 @@
 use Rattle.std.proofs.Common.{ℕ, List}
-use Rattle.value_model.proofs.Runs as runs
+use Rattle.built_values.proofs.Runs as runs
 use Rattle.source_meaning.specs.States.{State}
 use Rattle.source_meaning.specs.Steps.{Look, step}
 use Rattle.source_meaning.specs.Runs.{start}

@@ -1,10 +1,10 @@
 -- Two machines that come to reports which differ in nothing but their notes. From a pair of states they do so if they do from a pair
 -- of states that some moves lead to: so a proof goes along the moves of both, with what is to be shown of the rest in its hand.
 use Rattle.std.proofs.Common.{◌≡◌, ℕ, zero, suc, ◌+◌, ◌++◌, ◌∷◌, [], List, Some, refl, ap, ◌∙◌, subst, arith}
-use Rattle.value_model.specs.declared.end.End.{End}
-use Rattle.value_model.specs.declared.end.End.TheVariants.{Unfinished}
-use Rattle.value_model.specs.Runs.{Stamped, Report, Move, Goes, Shows, Charges, Ends, after, run, Reports, total, Agree}
-use Rattle.value_model.proofs.Runs.{one_report}
+use Rattle.built_values.specs.declared.end.End.{End}
+use Rattle.built_values.specs.declared.end.End.TheVariants.{Unfinished}
+use Rattle.built_values.specs.Runs.{Stamped, Report, Move, Goes, Shows, Charges, Ends, after, run, Reports, total, Agree}
+use Rattle.built_values.proofs.Runs.{one_report}
 
 total-append : {N : Type 0} (worth : N → ℕ) (xs ys : List N) → total worth (xs ++ ys) ≡ total worth xs + total worth ys
 total-append worth [] ys = omega arith

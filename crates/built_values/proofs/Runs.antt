@@ -1,6 +1,6 @@
 -- A run has one report.
 use Rattle.std.proofs.Common.{◌≡◌, ℕ, zero, suc, [], List, Some}
-use Rattle.value_model.specs.Runs.{Stamped, Report, Move, Goes, Shows, Charges, Ends, Rest, after, run, Reports}
+use Rattle.built_values.specs.Runs.{Stamped, Report, Move, Goes, Shows, Charges, Ends, Rest, after, run, Reports}
 
 module _ (E N S : Type 0) (step : S → Move E N S) where
   -- two ways to go on never give two reports

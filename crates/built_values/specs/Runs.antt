@@ -1,8 +1,8 @@
 -- Runs with a bound on their turns. A machine is a function from each of its states to the move that it makes there. It may be
 -- the meaning of source or that of code: both are run so.
 use Rattle.std.specs.Prelude.{◌≡◌, ℕ, zero, suc, ◌+◌, List, [], ◌∷◌, ◌++◌, Option, Some, None}
-use Rattle.value_model.specs.declared.end.End.{End}
-use Rattle.value_model.specs.declared.end.End.TheVariants.{Unfinished}
+use Rattle.built_values.specs.declared.end.End.{End}
+use Rattle.built_values.specs.declared.end.End.TheVariants.{Unfinished}
 
 -- a move: what it shows, and what it notes, which no later move can read
 pub data Move (E N S : Type 0) : Type 0 where

@@ -4,8 +4,8 @@ use Rattle.std.specs.Ordering.{int_eq}
 use Rattle.std.specs.Fmt.{signed_decimal}
 use Rattle.whole_num.specs.declared.arithmetic.Stop.{Stop}
 use Rattle.whole_num.specs.Whole.{within}
-use Rattle.value_model.specs.declared.value.Value.{Value}
-use Rattle.value_model.specs.declared.value.Value.TheVariants.{Nil, Boolean, Number}
+use Rattle.built_values.specs.declared.value.Value.{Value}
+use Rattle.built_values.specs.declared.value.Value.TheVariants.{Nil, Boolean, Number}
 
 -- the result of an operation on two values, or a stop; none where there is no rule for them
 abbrev pub Outcome : Type 0

@@ -1,8 +1,8 @@
 -- The global names.
 use Rattle.std.specs.Prelude.{nat_eq, if◌then◌else◌}
 use Rattle.byte_text.specs.declared.fixed.StrId.{StrId}
-use Rattle.value_model.specs.declared.value.Value.{Value}
-use Rattle.value_model.specs.declared.value.Value.TheVariants.{Nil, Print}
+use Rattle.built_values.specs.declared.value.Value.{Value}
+use Rattle.built_values.specs.declared.value.Value.TheVariants.{Nil, Print}
 
 -- the number of the text `print` in every interner
 abbrev pub print_name : StrId
