@@ -1,0 +1,6 @@
+pub mod ArenaLending
+pub mod Arenas
+pub mod Borders
+pub mod Lending
+pub mod Objects
+pub mod Tables
