@@ -1,4 +1,5 @@
 pub mod Borders
+pub mod Growing
 pub mod InOrder
 pub mod Laws
 pub mod Padding

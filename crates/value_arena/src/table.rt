@@ -72,6 +72,7 @@ impl Table {
     pub fn place(&self, key: Value) -> Option<usize>
         ensures place { result ≡ spec.place_of key self.now.entries }
         ensures within { IfSome result (λ place. place < length self.now.entries) }
+        ensures small { IfSome result (λ place. place < spec.most_entries) }
     {
         entries::place(&self.entries, &key)
     }
