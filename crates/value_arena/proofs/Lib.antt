@@ -2,6 +2,7 @@ pub mod Borders
 pub mod Growing
 pub mod InOrder
 pub mod Laws
+pub mod Owning
 pub mod Padding
 pub mod Places
 pub mod Reaching

@@ -4,4 +4,5 @@ pub mod Borders
 pub mod Growing
 pub mod Lending
 pub mod Objects
+pub mod Owning
 pub mod Tables
