@@ -1,0 +1,3 @@
+pub mod Causes
+pub mod Globals
+pub mod Rules

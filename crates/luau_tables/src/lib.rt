@@ -1,0 +1,14 @@
+//! Tables in the arena: reading, writing, walking; and the texts of values.
+#![tactic(auto)]
+
+mod globals;
+mod plain;
+mod reading;
+mod refusal;
+mod writing;
+
+pub use globals::{Globals, LibWorld, MetaNames};
+pub use plain::plain_into;
+pub use reading::{border, frozen, get, next};
+pub use refusal::{MetaErr, NextErr, SetErr};
+pub use writing::{set, set_meta};

@@ -1,0 +1,10 @@
+pub mod Borders
+pub mod Growing
+pub mod InOrder
+pub mod Laws
+pub mod Owning
+pub mod Padding
+pub mod Places
+pub mod Reaching
+pub mod Sameness
+pub mod Written
