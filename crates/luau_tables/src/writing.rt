@@ -4,6 +4,7 @@ ghost use Rattle.std.specs.Prelude.{◌≡◌, ◌+◌, OnOk, OnErr, IfErr, Err,
 ghost use Rattle.luau_tables.specs.Causes.{Answers};
 ghost use Rattle.luau_tables.specs.Rules as rule;
 ghost use Rattle.value_arena.specs.Arenas.{HasTable, table_at, with_table};
+ghost use Rattle.value_arena.specs.Growing.{Grows};
 ghost use Rattle.value_arena.specs.Tables.{is_nil, place_of};
 
 use crate::refusal::{MetaErr, SetErr, is_nil};
@@ -29,6 +30,7 @@ pub fn set<L: Ledger>(
     ensures ok { OnOk result (arena.new ≡ with_table arena.old t (rule.put (table_at arena.old t) key v)) }
     ensures err { OnErr result (arena.new ≡ arena.old) }
     ensures memory { result ≡ Err SetErr.OutOfMemory → (place_of key (table_at arena.old t).entries ≡ None) × (is_nil v ≡ false) }
+    ensures grows { Grows arena.old arena.new }
     ensures ticks { steps.new ≡ steps.old + 1 }
 {
     steps.tick();
@@ -77,6 +79,7 @@ pub fn set_meta(arena: &mut Arena, t: TableId, meta: Option<TableId>) -> Result<
     ensures frozen { OnErr result ((table_at arena.old t).is_frozen ≡ true) }
     ensures ok { OnOk result (((table_at arena.old t).is_frozen ≡ false) × (arena.new ≡ with_table arena.old t (record (table_at arena.old t) { meta = meta }))) }
     ensures err { OnErr result (arena.new ≡ arena.old) }
+    ensures grows { Grows arena.old arena.new }
 {
     if arena.table(t).is_frozen() {
         return Err(MetaErr::Frozen);
