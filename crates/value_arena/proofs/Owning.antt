@@ -45,20 +45,23 @@ hold_on a b w (value.Native x) g h = tt
 hold_on a b w (value.Host x) g h = tt
 
 pub table_on : (a b : ArenaView) (w : Owner) (t : TableView) → Grows a b → MayBeTable a w t → MayBeTable b w t
-table_on a b w t g h =
-    (all_on (λ e. MayHold a w e.0 × MayHold a w e.1) (λ e. MayHold b w e.0 × MayHold b w e.1) (λ e p. (hold_on a b w e.0 g p.0, hold_on a b w e.1 g p.1)) t.entries h.0,
-    some_on (λ m. MayHold a w (value.Table m)) (λ m. MayHold b w (value.Table m)) (λ m p. hold_on a b w (value.Table m) g p) t.meta h.1)
+table_on a b w t g h = (
+  all_on (λ e. MayHold a w e.0 × MayHold a w e.1) (λ e. MayHold b w e.0 × MayHold b w e.1) (λ e p. (hold_on a b w e.0 g p.0, hold_on a b w e.1 g p.1)) t.entries h.0,
+  some_on (λ m. MayHold a w (value.Table m)) (λ m. MayHold b w (value.Table m)) (λ m p. hold_on a b w (value.Table m) g p) t.meta h.1,
+)
 
 pub closure_on : (a b : ArenaView) (w : Owner) (f : Closure) → Grows a b → MayBeClosure a w f → MayBeClosure b w f
-closure_on a b w f g h =
-    (hold_on a b w (value.Table f.env) g h.0,
-    all_on (λ c. MaySee w (wide c.owner) × HasCell a c) (λ c. MaySee w (wide c.owner) × HasCell b c) (λ c p. (p.0, cell_stays a b c g p.1)) f.cells h.1)
+closure_on a b w f g h = (
+  hold_on a b w (value.Table f.env) g h.0,
+  all_on (λ c. MaySee w (wide c.owner) × HasCell a c) (λ c. MaySee w (wide c.owner) × HasCell b c) (λ c p. (p.0, cell_stays a b c g p.1)) f.cells h.1,
+)
 
 pub thread_on : (a b : ArenaView) (w : Owner) (t : Thread) → Grows a b → MayBeThread a w t → MayBeThread b w t
-thread_on a b w t g h =
-    (hold_on a b w t.body g h.0,
-    some_on (λ r. MayHold a w (value.Thread r)) (λ r. MayHold b w (value.Thread r)) (λ r p. hold_on a b w (value.Thread r) g p) t.resumer h.1,
-    some_on (λ v. MayHold a w v) (λ v. MayHold b w v) (λ v p. hold_on a b w v g p) t.failure h.2)
+thread_on a b w t g h = (
+  hold_on a b w t.body g h.0,
+  some_on (λ r. MayHold a w (value.Thread r)) (λ r. MayHold b w (value.Thread r)) (λ r p. hold_on a b w (value.Thread r) g p) t.resumer h.1,
+  some_on (λ v. MayHold a w v) (λ v. MayHold b w v) (λ v p. hold_on a b w v g p) t.failure h.2,
+)
 
 -- ---- what holds of an owner's objects goes on to hold, where a change of its objects keeps it
 
