@@ -1,4 +1,5 @@
 ghost use Rattle.std.specs.Prelude.{◌≡◌, ◌<◌};
+ghost use Rattle.value_arena.specs.Arenas.{HasTable};
 
 use byte_text::{Interner, StrId};
 use luau_tables::{
@@ -19,7 +20,56 @@ fn number(n: i64) -> Value {
     Whole::new(n).map_or(Value::Nil, Value::Num)
 }
 
-// Stores `a`, `b`, then nil under `a`, `c`, and `a` again, and walks.
+// Stores a value, and reads it back.
+fn store<L: Ledger>(
+    rt: &impl Abort,
+    arena: &mut Arena,
+    t: TableId,
+    key: Value,
+    value: Value,
+    steps: &mut Steps<L>,
+)
+    requires { HasTable arena.old t }
+    ensures { HasTable arena.new t }
+{
+    let done = set(arena, t, key, value, steps);
+    assert_eq!(rt; done, Ok(()));
+    assert_eq!(rt; get(arena, t, key, steps), value);
+}
+
+// Stores under nil, which is refused.
+fn refuse<L: Ledger>(
+    rt: &impl Abort,
+    arena: &mut Arena,
+    t: TableId,
+    why: SetErr,
+    steps: &mut Steps<L>,
+)
+    requires { HasTable arena.old t }
+    ensures { HasTable arena.new t }
+{
+    let done = set(arena, t, Value::Nil, Value::Nil, steps);
+    assert_eq!(rt; done, Err(why));
+}
+
+// Sets the table as its own metatable.
+fn take_meta(rt: &impl Abort, arena: &mut Arena, t: TableId, answer: Result<(), MetaErr>)
+    requires { HasTable arena.old t }
+    ensures { HasTable arena.new t }
+{
+    let done = set_meta(arena, t, Some(t));
+    assert_eq!(rt; done, answer);
+}
+
+fn freeze(rt: &impl Abort, arena: &mut Arena, t: TableId)
+    requires { HasTable arena.old t }
+    ensures { HasTable arena.new t }
+{
+    assert!(rt; !frozen(arena, t));
+    arena.freeze(t);
+}
+
+// Stores `a`, `b`, then nil under `a`, `c`, and `a` again, and walks; then freezes the table.
 fn stores<L: Ledger>(rt: &(impl Abort + AllocGlobal), blank: Blank) -> Result<(), Fail>
     requires name { blank.name ≡ L.name }
     requires parts { blank.parts ≡ L.parts }
@@ -32,18 +82,12 @@ fn stores<L: Ledger>(rt: &(impl Abort + AllocGlobal), blank: Blank) -> Result<()
     let b = Value::Str(names.intern(b"b")?);
     let c = Value::Str(names.intern(b"c")?);
     let t = arena.new_table(Owner::Script(0))?;
-    for (key, value) in &[
-        (a, number(1)),
-        (b, number(2)),
-        (a, Value::Nil),
-        (c, number(3)),
-        (a, number(4)),
-        (number(9), Value::Nil),
-    ] {
-        let done = set(&mut arena, t, *key, *value, &mut steps);
-        assert_eq!(rt; done, Ok(()));
-        assert_eq!(rt; get(&arena, t, *key, &mut steps), *value);
-    }
+    store(rt, &mut arena, t, a, number(1), &mut steps);
+    store(rt, &mut arena, t, b, number(2), &mut steps);
+    store(rt, &mut arena, t, a, Value::Nil, &mut steps);
+    store(rt, &mut arena, t, c, number(3), &mut steps);
+    store(rt, &mut arena, t, a, number(4), &mut steps);
+    store(rt, &mut arena, t, number(9), Value::Nil, &mut steps);
     for (key, entry) in &[
         (Value::Nil, Ok(Some((a, number(4))))),
         (a, Ok(Some((b, number(2))))),
@@ -53,28 +97,35 @@ fn stores<L: Ledger>(rt: &(impl Abort + AllocGlobal), blank: Blank) -> Result<()
     ] {
         assert_eq!(rt; next(&arena, t, *key), *entry);
     }
-    let nil_key = set(&mut arena, t, Value::Nil, a, &mut steps);
-    assert_eq!(rt; nil_key, Err(SetErr::NilKey));
-    assert_eq!(rt; set_meta(&mut arena, t, Some(t)), Ok(()));
-    arena.freeze(t);
-    let nil_key = set(&mut arena, t, Value::Nil, a, &mut steps);
-    assert_eq!(rt; nil_key, Err(SetErr::Frozen));
-    assert_eq!(rt; set_meta(&mut arena, t, None), Err(MetaErr::Frozen));
+    refuse(rt, &mut arena, t, SetErr::NilKey, &mut steps);
+    take_meta(rt, &mut arena, t, Ok(()));
+    freeze(rt, &mut arena, t);
+    refuse(rt, &mut arena, t, SetErr::Frozen, &mut steps);
+    take_meta(rt, &mut arena, t, Err(MetaErr::Frozen));
     assert!(rt; frozen(&arena, t));
-    assert_eq!(rt; border(&arena, t), 0);
-    // The border of { 1, 2, nil, 4 }.
-    let t = arena.new_table(Owner::Script(0))?;
-    for (key, value) in &[(1, 1), (2, 2), (4, 4)] {
-        let done = set(&mut arena, t, number(*key), number(*value), &mut steps);
-        assert_eq!(rt; done, Ok(()));
-    }
+    Ok(())
+}
+
+// The border of { 1, 2, nil, 4 } is 2.
+fn list<L: Ledger>(rt: &(impl Abort + AllocGlobal), blank: Blank) -> Result<(), Fail>
+    requires name { blank.name ≡ L.name }
+    requires parts { blank.parts ≡ L.parts }
+    requires some { 0 < L.parts }
+{
+    let mut steps = Steps::<L>::new(blank);
+    let mut arena = Arena::new(rt.alloc());
+    let t = arena.new_table(Owner::Frozen)?;
+    store(rt, &mut arena, t, number(1), number(1), &mut steps);
+    store(rt, &mut arena, t, number(2), number(2), &mut steps);
+    store(rt, &mut arena, t, number(4), number(4), &mut steps);
     assert_eq!(rt; border(&arena, t), 2);
     Ok(())
 }
 
 #[test]
 fn walks(rt: HostRuntime) -> Result<(), Fail> {
-    stores::<Brand>(&rt, Blank::new(1))
+    stores::<Brand>(&rt, Blank::new(1))?;
+    list::<Brand>(&rt, Blank::new(1))
 }
 
 // A world of two frozen tables more than the global table and the metatable of strings, and of one host function.
