@@ -1,5 +1,0 @@
-//! The tests of `emit_stat`.
-#![tactic(auto)]
-
-#[cfg(test)]
-mod tests;

@@ -1,5 +1,0 @@
-//! The tests of `value_arena`.
-#![tactic(auto)]
-
-#[cfg(test)]
-mod tests;
