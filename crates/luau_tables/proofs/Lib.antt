@@ -1,1 +1,5 @@
+pub mod OwnKept
+pub mod PartKept
+pub mod Sameness
+pub mod TablesKept
 pub mod Texts
