@@ -1,6 +1,7 @@
 -- The border, kept as a number.
 use Rattle.std.proofs.Common.{◌≡◌, ◌≢◌, ℕ, zero, suc, ◌+◌, ◌<◌, ◌≤◌, pos, ℤ, Bool, true, false, cond, [], ◌∷◌, length, refl, sym, ◌∙◌, ap, subst, arith, ◌⊎◌, inl, inr}
 use Rattle.std.proofs.lemmas.Bool.{cases_eq}
+use Rattle.value_model.proofs.Pairs.{written_here, written_else}
 use Rattle.value_model.specs.Pairs as pairs
 use Rattle.value_model.specs.declared.value.Value.{Value}
 use Rattle.value_model.specs.declared.value.Value.TheVariants.{Nil, Num}
@@ -140,44 +141,18 @@ nil_is : (v : Value) → is_nil v ≡ true → v ≡ Nil
 nil_is Nil h = refl
 nil_is _ h = absurd (clash h)
 
-under_put : (es : Entries) (key v : Value) → under (put es key v) key ≡ v
-under_put [] key v = by (is_nil v) refl
-  where
-    by : (b : Bool) → is_nil v ≡ b → under (cond b [] ((key, v) ∷ [])) key ≡ v
-    by true e = sym (nil_is v e)
-    by false e = ap (λ c. cond c v Nil) (is_value key key refl)
-under_put (e ∷ es) key v = by (under_put es key v) (same key e.0) refl
-  where
-    by : under (put es key v) key ≡ v → (b : Bool) → same key e.0 ≡ b → under (cond b ((e.0, v) ∷ es) (e ∷ put es key v)) key ≡ v
-    by rest true s = ap (λ c. cond c v (under es key)) s
-    by rest false s = ap (λ c. cond c e.1 (under (put es key v) key)) s ∙ rest
-
-under_other : (es : Entries) (key v k : Value) → same k key ≡ false → under (put es key v) k ≡ under es k
-under_other [] key v k h = by (is_nil v)
-  where
-    by : (b : Bool) → under (cond b [] ((key, v) ∷ [])) k ≡ Nil
-    by true = refl
-    by false = ap (λ c. cond c v Nil) h
-under_other (e ∷ es) key v k h = by (under_other es key v k h) (same key e.0) refl
-  where
-    by : under (put es key v) k ≡ under es k → (b : Bool) → same key e.0 ≡ b → under (cond b ((e.0, v) ∷ es) (e ∷ put es key v)) k ≡ under (e ∷ es) k
-    by rest true s =
-        let no : same k e.0 ≡ false = subst (λ q. same k q ≡ false) (value_is key e.0 s) h in
-        ap (λ c. cond c v (under es k)) no ∙ sym (ap (λ c. cond c e.1 (under es k)) no)
-    by rest false s = ap (λ u. cond (same k e.0) e.1 u) rest
-
 -- what was written stands under its key
 pub value_put : (es : Entries) (key v : Value) → value_in (put es key v) key ≡ v
 unfolding value_in
-value_put es key v = under_put es key v
+value_put es key v = written_here same is_nil Nil value_is (λ a. is_value a a refl) nil_is es key v
 
 -- and the border is the old one, but for that key
 pub border_put : (es : Entries) (key v : Value) → IsBorderBut (put es key v) key (border_of es)
 unfolding value_in
 border_put es key v =
     record {
-      below = λ k l h. ap is_nil (under_other es key v (number (pos (suc k))) h) ∙ (border_found es).0 k l;
-      behind = λ h. ap is_nil (under_other es key v (number (pos (suc (border_of es)))) h) ∙ (border_found es).1;
+      below = λ k l h. ap is_nil (written_else same is_nil Nil value_is (λ a. is_value a a refl) nil_is es key v (number (pos (suc k))) h) ∙ (border_found es).0 k l;
+      behind = λ h. ap is_nil (written_else same is_nil Nil value_is (λ a. is_value a a refl) nil_is es key v (number (pos (suc (border_of es)))) h) ∙ (border_found es).1;
     }
 
 -- The border stays, where the key's own number does not stand against it.
