@@ -1,3 +1,4 @@
 pub mod Causes
 pub mod Globals
+pub mod Part
 pub mod Rules
