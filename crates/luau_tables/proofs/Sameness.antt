@@ -24,7 +24,7 @@ use Rattle.value_model.specs.contracts.builtin.Builtin as builtin
 use Rattle.value_arena.specs.Tables.{same, is_nil}
 use Rattle.value_arena.proofs.Laws.{short_is}
 use Rattle.value_arena.proofs.Sameness.{value_decides}
-use Rattle.luau_tables.specs.Part.{IsSeen, MayHold}
+use Rattle.luau_tables.specs.Part.{IsSeen, IsOfScript}
 
 place_is : (p q : ℕ) → nat_eq p q ≡ true → p ≡ q
 place_is p q e = (Decides-eqb p q).0 e
@@ -50,7 +50,7 @@ boolean_is false false h = refl
 boolean_is true false h = absurd (cc)
 boolean_is false true h = absurd (cc)
 
-same_is : (texts : List Bytes) (w : Owner) (a b : Value) → AreDistinct texts → MayHold texts w a → MayHold texts w b → model.same (meant texts a) (meant texts b) ≡ true → a ≡ b
+same_is : (texts : List Bytes) (w : Owner) (a b : Value) → AreDistinct texts → IsOfScript texts w a → IsOfScript texts w b → model.same (meant texts a) (meant texts b) ≡ true → a ≡ b
 unfolding meant model.same
 same_is texts w value.Nil value.Nil d h k e = refl
 same_is texts w (value.Bool a) (value.Bool b) d h k e = ap value.Bool (boolean_is a b e)
@@ -68,14 +68,14 @@ same_is texts w (value.Thread a) (value.Thread b) d h k e = ap value.Thread (thr
 same_is texts w _ _ d h k e = absurd (cc)
 
 -- what says whether two values are one says so of what they mean
-pub same_kept : (texts : List Bytes) (w : Owner) → AreDistinct texts → (a b : Value) → MayHold texts w a → MayHold texts w b → model.same (meant texts a) (meant texts b) ≡ same a b
+pub same_kept : (texts : List Bytes) (w : Owner) → AreDistinct texts → (a b : Value) → IsOfScript texts w a → IsOfScript texts w b → model.same (meant texts a) (meant texts b) ≡ same a b
 same_kept texts w d a b h k =
     one_answer (model.same (meant texts a) (meant texts b)) (same a b)
     (same_is texts w a b d h k, λ e. ap (λ a. model.same (meant texts a) (meant texts b)) e ∙ same_refl (meant texts b))
     (value_decides a b)
 
 -- of values that one script may hold no two mean one
-pub meant_apart : (texts : List Bytes) (w : Owner) → AreDistinct texts → (a b : Value) → MayHold texts w a → MayHold texts w b → meant texts a ≡ meant texts b → a ≡ b
+pub meant_apart : (texts : List Bytes) (w : Owner) → AreDistinct texts → (a b : Value) → IsOfScript texts w a → IsOfScript texts w b → meant texts a ≡ meant texts b → a ≡ b
 meant_apart texts w d a b h k e = same_is texts w a b d h k (ap (λ v. model.same v (meant texts b)) e ∙ same_refl (meant texts b))
 
 pub nil_kept : (texts : List Bytes) (a : Value) → model.is_nil (meant texts a) ≡ is_nil a

@@ -13,7 +13,7 @@ use Rattle.value_model.specs.declared.ids.Owner.{Owner}
 use Rattle.value_model.specs.declared.value.Value.{Value}
 use Rattle.value_model.specs.declared.value.Value.TheVariants as value
 use Rattle.value_arena.specs.Tables.{Entries, TableView, same, is_nil, number, value_in, border_of}
-use Rattle.luau_tables.specs.Part.{pair_of, table_of, OfPairs, OfSome, OfTable, MayHold}
+use Rattle.luau_tables.specs.Part.{pair_of, table_of, OfPairs, OfSome, OfTable, IsOfScript}
 use Rattle.luau_tables.specs.Rules as rule
 use Rattle.luau_tables.proofs.Sameness.{same_kept, nil_kept, nil_is}
 
@@ -79,35 +79,35 @@ next_holds P t key h = by (is_nil key)
 -- ---- the table that is meant
 
 module _ (texts : List Bytes) (w : Owner) (d : AreDistinct texts) where
-  pub get_kept : (t : TableView) (key : Value) → OfTable (MayHold texts w) t → MayHold texts w key → model.get (table_of texts t) (meant texts key) ≡ meant texts (rule.get t key)
+  pub get_kept : (t : TableView) (key : Value) → OfTable (IsOfScript texts w) t → IsOfScript texts w key → model.get (table_of texts t) (meant texts key) ≡ meant texts (rule.get t key)
   unfolding model.get value_in
   get_kept t key h k =
-      carried.under_kept same is_nil value.Nil model.same model.is_nil m.Nil (meant texts) (MayHold texts w) (same_kept texts w d) (nil_kept texts) (nil_is texts) t.entries key (fit (MayHold texts w) t.entries h.entries) k
+      carried.under_kept same is_nil value.Nil model.same model.is_nil m.Nil (meant texts) (IsOfScript texts w) (same_kept texts w d) (nil_kept texts) (nil_is texts) t.entries key (fit (IsOfScript texts w) t.entries h.entries) k
 
-  pub put_kept : (t : TableView) (key v : Value) → OfTable (MayHold texts w) t → MayHold texts w key → model.put (table_of texts t) (meant texts key) (meant texts v) ≡ table_of texts (rule.put t key v)
+  pub put_kept : (t : TableView) (key v : Value) → OfTable (IsOfScript texts w) t → IsOfScript texts w key → model.put (table_of texts t) (meant texts key) (meant texts v) ≡ table_of texts (rule.put t key v)
   unfolding model.put rule.put
   put_kept t key v h k =
       ap (λ es. record (table_of texts t) { entries = es })
-      (carried.written_kept same is_nil value.Nil model.same model.is_nil m.Nil (meant texts) (MayHold texts w) (same_kept texts w d) (nil_kept texts) (nil_is texts) t.entries key v (fit (MayHold texts w) t.entries h.entries) k)
+      (carried.written_kept same is_nil value.Nil model.same model.is_nil m.Nil (meant texts) (IsOfScript texts w) (same_kept texts w d) (nil_kept texts) (nil_is texts) t.entries key v (fit (IsOfScript texts w) t.entries h.entries) k)
 
-  pub next_kept : (t : TableView) (key : Value) → OfTable (MayHold texts w) t → MayHold texts w key → model.next_entry (table_of texts t) (meant texts key) ≡ option_map (option_map (pair_of texts)) (rule.next t key)
+  pub next_kept : (t : TableView) (key : Value) → OfTable (IsOfScript texts w) t → IsOfScript texts w key → model.next_entry (table_of texts t) (meant texts key) ≡ option_map (option_map (pair_of texts)) (rule.next t key)
   unfolding model.next_entry rule.next
   next_kept t key h k =
-      carried.next_kept same is_nil value.Nil model.same model.is_nil m.Nil (meant texts) (MayHold texts w) (same_kept texts w d) (nil_kept texts) (nil_is texts) t.entries key (fit (MayHold texts w) t.entries h.entries) k
+      carried.next_kept same is_nil value.Nil model.same model.is_nil m.Nil (meant texts) (IsOfScript texts w) (same_kept texts w d) (nil_kept texts) (nil_is texts) t.entries key (fit (IsOfScript texts w) t.entries h.entries) k
 
-  item_kept : (t : TableView) (z : ℤ) → OfTable (MayHold texts w) t → pairs.item model.same model.is_nil m.Nil (λ z. m.Number z) (map (pair_of texts) t.entries) z ≡ meant texts (pairs.item same is_nil value.Nil number t.entries z)
+  item_kept : (t : TableView) (z : ℤ) → OfTable (IsOfScript texts w) t → pairs.item model.same model.is_nil m.Nil (λ z. m.Number z) (map (pair_of texts) t.entries) z ≡ meant texts (pairs.item same is_nil value.Nil number t.entries z)
   unfolding meant
   item_kept t z h =
-      carried.under_kept same is_nil value.Nil model.same model.is_nil m.Nil (meant texts) (MayHold texts w) (same_kept texts w d) (nil_kept texts) (nil_is texts) t.entries (value.Num z) (fit (MayHold texts w) t.entries h.entries) tt
+      carried.under_kept same is_nil value.Nil model.same model.is_nil m.Nil (meant texts) (IsOfScript texts w) (same_kept texts w d) (nil_kept texts) (nil_is texts) t.entries (value.Num z) (fit (IsOfScript texts w) t.entries h.entries) tt
 
-  border_from_kept : (more : ℕ) (t : TableView) (k : ℕ) → OfTable (MayHold texts w) t → pairs.border_from model.same model.is_nil m.Nil (λ z. m.Number z) more (map (pair_of texts) t.entries) k ≡ pairs.border_from same is_nil value.Nil number more t.entries k
+  border_from_kept : (more : ℕ) (t : TableView) (k : ℕ) → OfTable (IsOfScript texts w) t → pairs.border_from model.same model.is_nil m.Nil (λ z. m.Number z) more (map (pair_of texts) t.entries) k ≡ pairs.border_from same is_nil value.Nil number more t.entries k
   border_from_kept zero t k h = refl
   border_from_kept (suc more) t k h =
       ap (λ v. cond (model.is_nil v) k (pairs.border_from model.same model.is_nil m.Nil (λ z. m.Number z) more (map (pair_of texts) t.entries) (suc k))) (item_kept t (pos (suc k)) h)
       ∙ ap (λ b. cond b k (pairs.border_from model.same model.is_nil m.Nil (λ z. m.Number z) more (map (pair_of texts) t.entries) (suc k))) (nil_kept texts (pairs.item same is_nil value.Nil number t.entries (pos (suc k))))
       ∙ ap (λ n. cond (is_nil (pairs.item same is_nil value.Nil number t.entries (pos (suc k)))) k n) (border_from_kept more t (suc k) h)
 
-  pub border_kept : (t : TableView) → OfTable (MayHold texts w) t → model.border (table_of texts t) ≡ rule.border t
+  pub border_kept : (t : TableView) → OfTable (IsOfScript texts w) t → model.border (table_of texts t) ≡ rule.border t
   unfolding model.border border_of
   border_kept t h =
       ap (λ n. pairs.border_from model.same model.is_nil m.Nil (λ z. m.Number z) n (map (pair_of texts) t.entries) 0) (length-map t.entries (pair_of texts))
