@@ -1,0 +1,5 @@
+//! The tests of `value_arena`.
+#![tactic(auto)]
+
+#[cfg(test)]
+mod tests;
