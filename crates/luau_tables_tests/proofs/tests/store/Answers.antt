@@ -1,0 +1,8 @@
+use Rattle.value_arena.proofs.Growing.{table_stays}
+use Rattle.luau_tables_tests.proofs.tests.store.Goals as goal
+
+pub read-requires : goal.read-requires
+read-requires g c = table_stays c.args.arena.now c.set-done.new.arena c.args.t c.set-done.ensures.grows c.requires
+
+pub returns : goal.returns
+returns g c = table_stays c.args.arena.now c.set-done.new.arena c.args.t c.set-done.ensures.grows c.requires

@@ -1,0 +1,5 @@
+//! The tests of `luau_tables`.
+#![tactic(auto)]
+
+#[cfg(test)]
+mod tests;
