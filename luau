@@ -17,7 +17,7 @@ build() {
 
 if is_stale; then
     command -v rt >/dev/null || { echo "luau: the program is not built, and the kit's command rt is not on the path" >&2; exit 70; }
-    echo "luau: proving and building the program; from nothing this takes about half an hour" >&2
+    echo "luau: proving and building the program; from nothing this takes half an hour and more" >&2
     build >&2 </dev/null
     [ -x "$program" ] || { echo "luau: the program was not built" >&2; exit 70; }
     touch "$program"
