@@ -1,5 +1,5 @@
 -- How an answer was delivered, from what the two writes left.
-use Rattle.std.proofs.Common.{◌≡◌, ◌∙◌, ℕ, ◌≤◌, ◌⊎◌, inl, inr, ⊎_elim, List, [], length, take, Option, Some, None, ap, subst, arith, rules}
+use Rattle.std.proofs.Common.{◌≡◌, ◌∙◌, ℕ, ◌≤◌, ◌⊎◌, inl, inr, ⊎_elim, List, [], length, take, Option, Some, None, refl, sym, ap, subst, arith, rules}
 use Rattle.std.proofs.Common.{append-nil}
 use Rattle.resource.specs.Faults.{Rose}
 use Rattle.outside_io.specs.Sinks.{appended}
@@ -41,6 +41,71 @@ fault_not_ran (inr spent) = omega (arith, spent)
 
 fault_not_refused : HasRefused 5 → ⊥
 fault_not_refused r = let no : (5 ≡ 2) ⊎ (5 ≡ 3) ⊎ (5 ≡ 4) ⊎ (5 ≡ 10) = r in omega (arith, no)
+
+-- the status is that of the answer, or a write failed
+pub delivered : (a : Answer) (out report : Change) (status : ℕ) → Delivers a out report status → (status ≡ a.status) ⊎ ((status ≡ 5) × HasRun a.status × (Rose out.before out.now ⊎ Rose report.before report.now))
+delivered a out report _ (whole x y) = inl refl
+delivered a out report _ (no_output r x y) = inr (refl, r, inl x.0)
+delivered a out report _ (no_report r x y) = inr (refl, r, inr y.0)
+delivered a out report _ (refused r x y) = inl refl
+
+-- the statuses of an answer to a run
+abbrev pub IsOfRun : ℕ → Type 0
+IsOfRun status = HasRun status ⊎ ((status ≡ 3) ⊎ (status ≡ 4) ⊎ (status ≡ 10))
+
+of_run : (a : Answer) → IsProper a → IsOfRun a.status
+of_run a (inl ran) = inl ran
+of_run a (inr q) = inr q.0
+
+of_run_within : (status : ℕ) → IsOfRun status → (status ≤ 7) ⊎ (status ≡ 10)
+of_run_within status (inl (inl few)) = inl (omega (arith, few))
+of_run_within status (inl (inr e)) = inl (omega (arith, e))
+of_run_within status (inr (inl e)) = inl (omega (arith, e))
+of_run_within status (inr (inr (inl e))) = inl (omega (arith, e))
+of_run_within status (inr (inr (inr e))) = inr e
+
+not_of_words : (status : ℕ) → IsOfRun status → status ≡ 2 → ⊥
+not_of_words status (inl (inl few)) e = omega (arith, few, e)
+not_of_words status (inl (inr h)) e = omega (arith, h, e)
+not_of_words status (inr (inl h)) e = omega (arith, h, e)
+not_of_words status (inr (inr (inl h))) e = omega (arith, h, e)
+not_of_words status (inr (inr (inr h))) e = omega (arith, h, e)
+
+not_of_write : (status : ℕ) → IsOfRun status → status ≡ 5 → ⊥
+not_of_write status (inl (inl few)) e = omega (arith, few, e)
+not_of_write status (inl (inr h)) e = omega (arith, h, e)
+not_of_write status (inr (inl h)) e = omega (arith, h, e)
+not_of_write status (inr (inr (inl h))) e = omega (arith, h, e)
+not_of_write status (inr (inr (inr h))) e = omega (arith, h, e)
+
+module _ (a : Answer) (out report : Change) (status : ℕ) (proper : IsProper a) (d : Delivers a out report status) where
+  pub run_status : (status ≤ 7) ⊎ (status ≡ 10)
+  run_status = by (delivered a out report status d)
+    where
+      by : (status ≡ a.status) ⊎ ((status ≡ 5) × HasRun a.status × (Rose out.before out.now ⊎ Rose report.before report.now)) → (status ≤ 7) ⊎ (status ≡ 10)
+      by (inl e) = subst (λ s. (s ≤ 7) ⊎ (s ≡ 10)) (sym e) (of_run_within a.status (of_run a proper))
+      by (inr q) = inl (omega (arith, q.0))
+
+  pub run_not_words : status ≡ 2 → ⊥
+  run_not_words two = by (delivered a out report status d)
+    where
+      by : (status ≡ a.status) ⊎ ((status ≡ 5) × HasRun a.status × (Rose out.before out.now ⊎ Rose report.before report.now)) → ⊥
+      by (inl e) = not_of_words a.status (of_run a proper) (sym e ∙ two)
+      by (inr q) = omega (arith, q.0, two)
+
+  pub run_unread : a.status ≡ 4 → status ≡ 4
+  run_unread four = by (delivered a out report status d)
+    where
+      by : (status ≡ a.status) ⊎ ((status ≡ 5) × HasRun a.status × (Rose out.before out.now ⊎ Rose report.before report.now)) → status ≡ 4
+      by (inl e) = e ∙ four
+      by (inr q) = absurd (not_unread a.status q.1 four)
+
+  pub run_write_fault : status ≡ 5 → Rose out.before out.now ⊎ Rose report.before report.now
+  run_write_fault five = by (delivered a out report status d)
+    where
+      by : (status ≡ a.status) ⊎ ((status ≡ 5) × HasRun a.status × (Rose out.before out.now ⊎ Rose report.before report.now)) → Rose out.before out.now ⊎ Rose report.before report.now
+      by (inl e) = absurd (not_of_write a.status (of_run a proper) (sym e ∙ five))
+      by (inr q) = q.2
 
 -- with the status of a script that ran no write failed, and the answer has that status
 pub ran_quiet : (a : Answer) (out report : Change) (status : ℕ) → Delivers a out report status → HasRun status → HasRun a.status × (out.now ≡ out.before) × (report.now ≡ report.before)

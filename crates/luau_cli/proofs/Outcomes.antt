@@ -13,8 +13,9 @@ use Rattle.emit_stat.specs.Correct.{Behaves}
 use Rattle.luau_vm.specs.declared.running.Ran.{Ran}
 use Rattle.luau_vm.specs.Shown.{Shows, line_of, lines_of}
 use Rattle.luau_cli.specs.declared.reply.Reply.{Reply}
-use Rattle.luau_cli.specs.Answer.{refusal, refusal_text, IsReported, AnswersScript, refused, runs}
-use Rattle.luau_cli.specs.Refusals.{Cause, statements, IsScript, IsRefused}
+use Rattle.luau_cli.specs.Answer.{refusal, refused_text, IsReported, AnswersScript, refused, runs}
+use Rattle.luau_cli.specs.declared.refusal.ScriptErr.{ScriptErr}
+use Rattle.luau_cli.specs.Refusals.{statements, IsScript, IsRefused}
 use Rattle.luau_cli.specs.Making.{answer_of}
 
 -- what the machine made of a script's code
@@ -46,6 +47,6 @@ answers_run bytes tree code turns ran (Ok reply) script b run made =
 answers_run bytes tree code turns ran (Err e) script b run made = tt
 
 -- a text that is refused
-pub answers_refused : (bytes : List ℕ) (turns : ℕ) (c : Cause) (r : Result Reply OutOfMemory) → IsRefused bytes c → IfOk r (λ m. answer_of m ≡ refusal 3 (refusal_text c)) → IfOk r (λ m. AnswersScript bytes turns (answer_of m))
-answers_refused bytes turns c (Ok m) is made = subst (λ a. AnswersScript bytes turns a) (sym made) (refused c is)
-answers_refused bytes turns c (Err e) is made = tt
+pub answers_refused : (bytes : List ℕ) (turns : ℕ) (why : ScriptErr) (r : Result Reply OutOfMemory) → IsRefused bytes why → IfOk r (λ m. answer_of m ≡ refusal 3 (refused_text why)) → IfOk r (λ m. AnswersScript bytes turns (answer_of m))
+answers_refused bytes turns why (Ok m) is made = subst (λ a. AnswersScript bytes turns a) (sym made) (refused why is)
+answers_refused bytes turns why (Err e) is made = tt

@@ -3,19 +3,23 @@ use Rattle.std.proofs.Common.{◌≡◌, ◌∙◌, ℕ, List, [], Some, refl, s
 use Rattle.std.specs.Prelude.{Contains}
 use Rattle.std.proofs.lemmas.Option.{none-some}
 use Rattle.syntax_tree.specs.declared.fault.ScopeFault.{ScopeFault}
+use Rattle.syntax_tree.specs.declared.refusal.Cause.{Cause}
+use Rattle.syntax_tree.specs.declared.refusal.Cause.TheVariants as cause
+use Rattle.syntax_tree.specs.declared.refusal.Refusal.{Refusal}
 use Rattle.syntax_tree.specs.declared.token.Token.{Token}
 use Rattle.syntax_tree.specs.declared.tree.Tree.{Tree}
+use Rattle.syntax_tree.specs.Accepts.{Accepts, Refuses, no_tokens, no_tree, breaks_rule}
 use Rattle.syntax_tree.specs.Bound.{faults}
 use Rattle.syntax_tree.specs.Derivations.{main_function, Derives}
 use Rattle.syntax_tree.specs.Numbers.{numbered}
-use Rattle.luau_lexer.specs.Tokens.{HasTokens}
+use Rattle.syntax_tree.specs.Tokens.{HasTokens}
 use Rattle.luau_lexer.proofs.OneTokenList.{one_list, tokens_or_fault}
-use Rattle.luau_parser.specs.declared.error.ParseErr.{ParseErr}
-use Rattle.luau_parser.specs.declared.error.ParseErr.TheVariants as parse
-use Rattle.luau_parser.specs.Parsed.{IsShallow, IsParsed, IsRefusal}
+use Rattle.syntax_tree.specs.Parsed.{IsShallow, IsParsed, IsRefusedFor, HasRefusal}
 use Rattle.luau_parser.proofs.OneTree.{same_block}
 use Rattle.emit_stat.specs.Unbuilt.{first_unbuilt}
-use Rattle.luau_cli.specs.Refusals.{Cause, syntactic, statements, IsScript, IsRefused, no_tokens, no_tree, breaks_rule, unbuilt}
+use Rattle.luau_cli.specs.declared.refusal.ScriptErr.{ScriptErr}
+use Rattle.luau_cli.specs.declared.refusal.ScriptErr.TheVariants as error
+use Rattle.luau_cli.specs.Refusals.{statements, IsScript, IsRefused}
 
 derives : (ts : List Token) (tree : Tree) → IsShallow ts tree → Derives ts tree
 derives ts tree s = record { brackets = _; block = s.block; derived = s.derived; numbers = s.numbers }
@@ -27,11 +31,11 @@ one_tree ts a b p q =
     p.0.numbers ∙ ap (λ block. numbered (main_function block)) same.1 ∙ sym q.0.numbers
 
 -- tokens with a tree are not refused
-parsed_or_refused : (ts : List Token) (tree : Tree) (error : ParseErr) (c : Cause) → IsParsed ts tree → IsRefusal ts error → syntactic error ≡ Some c → ⊥
-parsed_or_refused ts tree (parse.Unexpected at) c p r e = r.no_tree tree (derives ts tree p.0)
-parsed_or_refused ts tree (parse.TooDeep at) c p r e = r.none ts tree refl p.0
-parsed_or_refused ts tree (parse.AmbiguousCall at) c p r e = p.1 r.place r.call
-parsed_or_refused ts tree parse.OutOfMemory c p r e = none-some c e
+parsed_or_refused : (ts : List Token) (tree : Tree) (c : Cause) (at : ℕ) → IsParsed ts tree → IsRefusedFor ts c at → ⊥
+parsed_or_refused ts tree cause.Unexpected at p r = r.no_tree tree (derives ts tree p.0)
+parsed_or_refused ts tree cause.TooDeep at p r = r.none ts tree refl p.0
+parsed_or_refused ts tree cause.AmbiguousCall at p r = p.1 r.place r.call
+parsed_or_refused ts tree _ at p r = r
 
 -- and so has a text
 same_tree : (bytes : List ℕ) (ts us : List Token) (a b : Tree) → HasTokens bytes ts → HasTokens bytes us → IsParsed ts a → IsParsed us b → a ≡ b
@@ -44,18 +48,20 @@ no_fault all fault none has =
     let held : Contains {X = ScopeFault} [] fault = subst (λ fs. Contains fs fault) none has in
     omega (arith, held.1)
 
-pub refused_or_script : (bytes : List ℕ) (c : Cause) → IsRefused bytes c → (tree : Tree) → IsScript bytes tree → ⊥
-refused_or_script bytes _ (no_tokens fault c has e) tree s =
-    tokens_or_fault bytes s.accepted.tokens fault s.accepted.spelled has
-refused_or_script bytes _ (no_tree tokens error c spelled refusal e) tree s =
-    let a = s.accepted in
+-- an accepted text is not refused
+pub refused_or_accepted : (bytes : List ℕ) (why : Refusal) → Refuses bytes why → (tree : Tree) → Accepts bytes tree → ⊥
+refused_or_accepted bytes _ (no_tokens why has) tree a = tokens_or_fault bytes a.tokens why a.spelled has
+refused_or_accepted bytes _ (no_tree tokens why spelled refusal) tree a =
     let same = one_list bytes tokens a.tokens spelled a.spelled in
-    parsed_or_refused a.tokens tree error c a.parsed (subst (λ ts. IsRefusal ts error) same refusal) e
-refused_or_script bytes _ (breaks_rule tokens other fault spelled parsed first) tree s =
-    let a = s.accepted in
+    parsed_or_refused a.tokens tree why.cause why.at a.parsed (subst (λ ts. HasRefusal ts why) same refusal)
+refused_or_accepted bytes _ (breaks_rule tokens other fault spelled parsed first) tree a =
     let same = same_tree bytes tokens a.tokens other tree spelled a.spelled parsed a.parsed in
     no_fault (faults other) fault (ap faults same ∙ a.unbroken) first.broken
-refused_or_script bytes _ (unbuilt other at b e) tree s =
+
+pub refused_or_script : (bytes : List ℕ) (why : ScriptErr) → IsRefused bytes why → (tree : Tree) → IsScript bytes tree → ⊥
+refused_or_script bytes (error.Refused why) refusal tree s = refused_or_accepted bytes why refusal tree s.accepted
+refused_or_script bytes (error.NotBuilt at) u tree s =
     let a = s.accepted in
-    let same = same_tree bytes b.tokens a.tokens other tree b.spelled a.spelled b.parsed a.parsed in
-    none-some at (sym s.built ∙ ap (λ t. first_unbuilt (statements t)) (sym same) ∙ e)
+    let b = u.accepted in
+    let same = same_tree bytes b.tokens a.tokens u.tree tree b.spelled a.spelled b.parsed a.parsed in
+    none-some at (sym s.built ∙ ap (λ t. first_unbuilt (statements t)) (sym same) ∙ u.first)

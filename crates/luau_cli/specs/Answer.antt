@@ -1,6 +1,6 @@
 -- What the program answers.
-use Rattle.std.specs.Prelude.{◌≡◌, ℕ, ◌<◌, ◌≤◌, ◌⊎◌, List, [], ◌++◌, length, Option, Some, None, codes}
-use Rattle.std.specs.Fmt.{decimal}
+use Rattle.std.specs.Prelude.{◌≡◌, ℕ, ◌<◌, ◌≤◌, ◌⊎◌, List, [], ◌++◌, length, Option, Some, None, IfSome, option_map, codes}
+use Rattle.outside_io.specs.Files.{Contents}
 use Rattle.resource.specs.Faults.{Rose}
 use Rattle.whole_num.specs.declared.arithmetic.Stop.{Stop}
 use Rattle.whole_num.specs.Whole.{stop_text}
@@ -12,7 +12,8 @@ use Rattle.source_meaning.specs.Steps.{Look}
 use Rattle.source_meaning.specs.Runs.{SourceRun}
 use Rattle.luau_vm.specs.Shown.{line_of, lines_of}
 use Rattle.luau_cli.specs.Command.{RunFile}
-use Rattle.luau_cli.specs.Refusals.{Cause, statements, IsScript, IsRefused}
+use Rattle.luau_cli.specs.declared.refusal.ScriptErr.{ScriptErr}
+use Rattle.luau_cli.specs.Refusals.{statements, IsScript, IsRefused, error_text}
 
 -- a status, the bytes of the output, and those of the report
 pub record Answer : Type 0 where
@@ -37,25 +38,39 @@ abbrev pub refusal : (status : ℕ) → (text : List ℕ) → Answer
 refusal status text = record { status = status; output = []; report = line_of text }
 
 -- the line that tells why a script is refused
-abbrev pub refusal_text : Cause → List ℕ
-refusal_text c = codes "1 refused: " ++ (c.name ++ (codes " at " ++ decimal c.at))
+abbrev pub refused_text : ScriptErr → List ℕ
+refused_text why = codes "1 refused: " ++ error_text why
 
 -- the answer to a script: why and where it is refused, or what its run prints with so many turns and how it ends
 pub data AnswersScript (bytes : List ℕ) (turns : ℕ) : Answer → Type 0 where
-  refused : (c : Cause) → IsRefused bytes c → AnswersScript bytes turns (refusal 3 (refusal_text c))
+  refused : (why : ScriptErr) → IsRefused bytes why → AnswersScript bytes turns (refusal 3 (refused_text why))
   runs : (tree : Tree) (r : Report (List ℕ) Look) (status : ℕ) (text : List ℕ) → IsScript bytes tree → SourceRun (statements tree) turns r → IsReported r.end status text → AnswersScript bytes turns (record { status = status; output = lines_of r.events; report = line_of text })
 
--- the answer for a file, which is there or not, where the files' count of faults was `before` and is `now`
-pub data AnswersFile (file : List ℕ) (turns before now : ℕ) : Option (List ℕ) → Answer → Type 0 where
-  missing : now ≡ before → AnswersFile file turns before now None (refusal 4 (codes "missing: " ++ file))
-  too_large : (bytes : List ℕ) → now ≡ before → size_limit < length bytes → AnswersFile file turns before now (Some bytes) (refusal 10 (codes "too large: " ++ file))
-  read_fault : (bytes : List ℕ) → Rose before now → AnswersFile file turns before now (Some bytes) (refusal 4 (codes "read fault: " ++ file))
-  read : (bytes : List ℕ) (a : Answer) → now ≡ before → length bytes ≤ size_limit → AnswersScript bytes turns a → AnswersFile file turns before now (Some bytes) a
+-- what the files tell of one of them: its contents, or that it is missing; or nothing
+abbrev pub told_of : Contents → (file : List ℕ) → Option (Option (List ℕ))
+told_of contents file = option_map (λ files. files file) contents
 
--- the answer to the words, where the files hold these contents: a read fault comes only where the count of faults rose
-pub data Answers (contents : List ℕ → Option (List ℕ)) (words : List (List ℕ)) (before now : ℕ) : Answer → Type 0 where
+abbrev pub IsThere : Option (List ℕ) → Type 0
+IsThere None = ⊥
+IsThere (Some bytes) = Unit {0}
+
+abbrev pub IsTooLarge : Option (List ℕ) → Type 0
+IsTooLarge None = ⊥
+IsTooLarge (Some bytes) = size_limit < length bytes
+
+-- The answer for a file, where the files' count of faults was `before` and is `now`. What is told of the file, if anything
+-- is, says which one it is; a script that is answered is what was read.
+pub data AnswersFile (file : List ℕ) (turns before now : ℕ) (told : Option (Option (List ℕ))) : Answer → Type 0 where
+  missing : now ≡ before → IfSome told (λ content. content ≡ None) → AnswersFile file turns before now told (refusal 4 (codes "missing: " ++ file))
+  too_large : now ≡ before → IfSome told IsTooLarge → AnswersFile file turns before now told (refusal 10 (codes "too large: " ++ file))
+  read_fault : Rose before now → IfSome told IsThere → AnswersFile file turns before now told (refusal 4 (codes "read fault: " ++ file))
+  read : (bytes : List ℕ) (a : Answer) → now ≡ before → length bytes ≤ size_limit → IfSome told (λ content. content ≡ Some bytes) → AnswersScript bytes turns a → AnswersFile file turns before now told a
+
+-- the answer to the words, where the files tell these contents or nothing: a read fault comes only where the count of faults
+-- rose
+pub data Answers (contents : Contents) (words : List (List ℕ)) (before now : ℕ) : Answer → Type 0 where
   to_other_words : ((turns : ℕ) (file : List ℕ) → RunFile words turns file → ⊥) → now ≡ before → Answers contents words before now (refusal 2 usage)
-  to_run : (turns : ℕ) (file : List ℕ) (a : Answer) → RunFile words turns file → AnswersFile file turns before now (contents file) a → Answers contents words before now a
+  to_run : (turns : ℕ) (file : List ℕ) (a : Answer) → RunFile words turns file → AnswersFile file turns before now (told_of contents file) a → Answers contents words before now a
 
 -- the status of a script that ran: it ended, it stopped, or its turns are spent
 abbrev pub HasRun : (status : ℕ) → Type 0

@@ -3,11 +3,10 @@
 ghost use Rattle.std.specs.Prelude.{◌≡◌, ℕ, List, IfOk};
 ghost use Rattle.built_values.specs.declared.end.End.{End};
 ghost use Rattle.luau_vm.specs.Shown.{line_of};
-ghost use Rattle.luau_cli.specs.Answer.{refusal, refusal_text, AnswersScript, IsProper, IsReported};
-ghost use Rattle.luau_cli.specs.Refusals.{cause_of};
+ghost use Rattle.luau_cli.specs.Answer.{refusal, refused_text, AnswersScript, IsProper, IsReported};
 ghost use Rattle.luau_cli.specs.Making.{answer_of};
 
-use crate::refusal::Refusal;
+use crate::refusal::ScriptErr;
 use crate::reply::{Reply, SPENT, line};
 use crate::script::{Reading, read_script};
 use built_values::End;
@@ -28,7 +27,7 @@ pub fn reply_to_script(alloc: Global, source: &[u8], turns: u32) -> Result<Reply
     ensures proper { IfOk result (λ r. IsProper (answer_of r)) }
 {
     match read_script(alloc, source)? {
-        Reading::Refused(refusal) => reply_to_refused(alloc, &refusal),
+        Reading::Refused(why) => reply_to_refused(alloc, why),
         Reading::Script(tree) => {
             let code = compile(alloc, tree.main.body.as_slice())?;
             let ran = run(alloc, &code, turns)?;
@@ -38,11 +37,10 @@ pub fn reply_to_script(alloc: Global, source: &[u8], turns: u32) -> Result<Reply
 }
 
 /// The reply to a script that is refused.
-fn reply_to_refused(alloc: Global, why: &Refusal) -> Result<Reply, OutOfMemory>
-    ensures { IfOk result (λ r. answer_of r ≡ refusal 3 (refusal_text (cause_of why.now))) }
+fn reply_to_refused(alloc: Global, why: ScriptErr) -> Result<Reply, OutOfMemory>
+    ensures { IfOk result (λ r. answer_of r ≡ refusal 3 (refused_text why)) }
 {
-    let Refusal { cause, at } = why;
-    let text = format!(in alloc; "{cause} at {at}")?;
+    let text = format!(in alloc; "{why}")?;
     Reply::refusal(alloc, REFUSED, b"1 refused: ", text.as_bytes())
 }
 

@@ -1,11 +1,12 @@
 //! From a text to the tree that is run, or to its refusal.
 
 ghost use Rattle.std.specs.Prelude.{◌≡◌, IfOk, Some};
-ghost use Rattle.luau_cli.specs.declared.refusal.Refusal.{Refusal};
+ghost use Rattle.syntax_tree.specs.declared.refusal.Refusal.{Refusal};
+ghost use Rattle.luau_cli.specs.declared.refusal.ScriptErr.TheVariants as script_error;
 ghost use Rattle.luau_cli.specs.declared.script.Reading.TheVariants as reading;
 ghost use Rattle.luau_cli.specs.Refusals.{IsReadingOf, IsCompilable};
 
-use crate::refusal::{Refusal, broken_rule, lexical, syntactic};
+use crate::refusal::ScriptErr;
 use byte_text::Interner;
 use emit_stat::first_unbuilt;
 use luau_lexer::lex;
@@ -13,14 +14,14 @@ use luau_parser::parse;
 use resource::OutOfMemory;
 use scopes::resolve;
 use std::alloc::Global;
-use syntax_tree::Tree;
+use syntax_tree::{Refusal, Tree};
 
 /// What a text is found to be.
 #[derive(Drop)]
 pub enum Reading {
     /// An accepted script all of which is built, with its tree.
     Script(Tree),
-    Refused(Refusal),
+    Refused(ScriptErr),
 }
 
 /// Reads a whole text: its tokens, their tree, the rules of scopes and sizes, and which nodes are built.
@@ -33,31 +34,28 @@ pub fn read_script(alloc: Global, source: &[u8]) -> Result<Reading, OutOfMemory>
     let mut names = Interner::new(alloc);
     let tokens = match lex(alloc, source, &mut names) {
         Ok(tokens) => tokens,
-        Err(error) => return refused(lexical(error)),
+        Err(error) => return refused(error.refusal()),
     };
     let tree = match parse(alloc, tokens.as_slice()) {
         Ok(tree) => tree,
-        Err(error) => return refused(syntactic(error)),
+        Err(error) => return refused(error.refusal()),
     };
     match resolve(alloc, &tree) {
         Ok(_) => {}
-        Err(error) => return refused(broken_rule(error)),
+        Err(error) => return refused(error.refusal()),
     }
     match first_unbuilt(alloc, &tree)? {
-        Some(at) => Ok(Reading::Refused(Refusal {
-            cause: "NotBuilt 60",
-            at,
-        })),
+        Some(at) => Ok(Reading::Refused(ScriptErr::NotBuilt { at })),
         None => Ok(Reading::Script(tree)),
     }
 }
 
 // A refusal, unless memory ran out.
 fn refused(refusal: Option<Refusal>) -> Result<Reading, OutOfMemory>
-    ensures { IfOk result (λ r. (why : Refusal) × (refusal ≡ Some why) × (r ≡ reading.Refused why)) }
+    ensures { IfOk result (λ r. (why : Refusal) × (refusal ≡ Some why) × (r ≡ reading.Refused (script_error.Refused why))) }
 {
     match refusal {
-        Some(refusal) => Ok(Reading::Refused(refusal)),
+        Some(refusal) => Ok(Reading::Refused(ScriptErr::Refused(refusal))),
         None => Err(OutOfMemory),
     }
 }

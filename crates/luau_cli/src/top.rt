@@ -2,7 +2,7 @@
 
 ghost use Rattle.std.specs.Prelude.{◌≡◌, ◌≢◌, ◌≤◌, ℕ, List, ◌⊎◌, ◌↔◌, ◌∷◌, [], Some, length, map, string_bytes, codes, IfOk, IfSome, MatchOption, ◌<◌};
 ghost use Rattle.resource.specs.Faults.{Rose};
-ghost use Rattle.luau_cli.specs.Answer.{Answer, Answers, AnswersFile, RunsScript, IsProper, HasRun, HasRefused};
+ghost use Rattle.luau_cli.specs.Answer.{Answer, Answers, AnswersFile, RunsScript, told_of, IsProper, HasRun, HasRefused};
 ghost use Rattle.luau_cli.specs.Command.{RunFile};
 ghost use Rattle.luau_cli.specs.Delivery.{Delivers, change};
 ghost use Rattle.luau_cli.specs.Making.{answer_of};
@@ -39,13 +39,13 @@ pub fn top<F: Files, O: Sink, E: Sink>(
     // The statuses.
     ensures statuses { (result ≤ 7) ⊎ (result ≡ 10) }
 
-    // What is written and with which status, but for want of memory.
-    ensures answer { IfSome (F.contents files.old) (λ told. result ≢ 6 →
-        (a : Answer) × Answers told (map string_bytes words.entry.now) (F.faults files.old) (F.faults files.new) a
+    // What is written and with which status, but for want of memory. Of files that tell their contents the answer is as these say.
+    ensures answer { result ≢ 6 →
+        (a : Answer) × Answers (F.contents files.old) (map string_bytes words.entry.now) (F.faults files.old) (F.faults files.new) a
         × Delivers a
         (change (O.bytes out.old) (O.bytes out.new) (O.faults out.old) (O.faults out.new))
         (change (E.bytes report.old) (E.bytes report.new) (E.faults report.old) (E.faults report.new))
-        result) }
+        result }
 
     // An accepted script all of which is built, in a file that is there, runs, but for want of memory and where a read or a
     // write fails.
@@ -81,8 +81,8 @@ fn reply_for<F: Files>(
     turns: u32,
     files: &mut F,
 ) -> Result<Reply, OutOfMemory>
-    ensures told { IfSome (F.contents files.old) (λ told.
-        IfOk result (λ r. AnswersFile file.now turns (F.faults files.old) (F.faults files.new) (told file.now) (answer_of r))) }
+    ensures answers { IfOk result (λ r.
+        AnswersFile file.now turns (F.faults files.old) (F.faults files.new) (told_of (F.contents files.old) file.now) (answer_of r)) }
     ensures proper { IfOk result (λ r. IsProper (answer_of r)) }
     ensures quiet { IfOk result (λ r. r.status ≢ 4 → F.faults files.new ≡ F.faults files.old) }
     ensures fault { F.faults files.new ≢ F.faults files.old → IfOk result (λ r. r.status ≡ 4) }

@@ -1,7 +1,7 @@
 -- How far the body of a string was read.
 use Rattle.std.proofs.Common.{◌≡◌, ℕ, ◌+◌, ◌≤◌, Bool, inl, inr, List, [], ◌∷◌, ◌++◌, length, drop, refl, sym, ap, subst, ◌∙◌, arith, append_assoc, length-drop}
 use Rattle.std.proofs.lemmas.List.{drop-drop, append-nil}
-use Rattle.luau_lexer.specs.Strings.{Part, Inner, Closing, Malformed, Unfinished, Span, AreInTurn, spans_text, spans_len, part_at, raw_part_at, Body, Closed, Unclosed, Broken, HasBody, Breaks}
+use Rattle.syntax_tree.specs.Strings.{Part, Inner, Closing, Malformed, Unfinished, Span, AreInTurn, spans_text, spans_len, part_at, raw_part_at, Body, Closed, Unclosed, Broken, HasBody, Breaks}
 use Rattle.luau_lexer.specs.Parts.{PassesTo, IsBroken}
 
 -- from an offset to another, spans stand in turn

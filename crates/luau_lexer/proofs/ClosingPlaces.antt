@@ -1,6 +1,6 @@
 -- Where a bracket closes: at the first place that passes the test.
 use Rattle.std.proofs.Common.{◌≡◌, ℕ, suc, ◌+◌, ◌<◌, Bool, true, false, cond, List, ◌∷◌, length, get_or, drop, Option, Some, None, option_map, refl, sym, ap, ◌∙◌, arith, add-one, drop-cons}
-use Rattle.luau_lexer.specs.Gaps.{bracket_level, is_level, closing_place}
+use Rattle.syntax_tree.specs.Gaps.{bracket_level, is_level, closing_place}
 
 -- what is found k bytes behind the front is found that much further from before it
 abbrev pub shifted : ℕ → Option ℕ → Option ℕ

@@ -1,15 +1,17 @@
 -- How far a text was read, with its tokens so far.
-use Rattle.std.proofs.Common.{◌≡◌, ℕ, ◌<◌, List, [], ◌∷◌, ◌++◌, length, refl, sym, ap, subst, ◌∙◌, arith, length-drop}
+use Rattle.std.proofs.Common.{◌≡◌, ℕ, ◌<◌, List, [], ◌∷◌, ◌++◌, length, Option, Some, None, IfSome, refl, sym, ap, subst, ◌∙◌, arith, length-drop}
 use Rattle.byte_text.specs.declared.StrId.{StrId}
+use Rattle.syntax_tree.specs.declared.refusal.Refusal.{Refusal}
 use Rattle.syntax_tree.specs.declared.token.Token.{Token}
 use Rattle.syntax_tree.specs.declared.token.TokenKind.{TokenKind}
 use Rattle.luau_lexer.specs.declared.error.LexErr.{LexErr}
-use Rattle.luau_lexer.specs.declared.error.LexErr.TheVariants as error
-use Rattle.luau_lexer.specs.declared.form.Form.{Form}
-use Rattle.luau_lexer.specs.declared.form.Opener.{Opener}
-use Rattle.luau_lexer.specs.Plain.{Word, Fixed, Named, Numeral, Text, BeginPiece, MidPiece, EndPiece, WholePiece}
-use Rattle.luau_lexer.specs.Spellings.{Place, start, Step, Gap, Lexeme, Passes, Ends, Fails, behind, form_of, Stands, StandInTurn, Spelled, spelled, tokens_of, Spells, HasFault}
-use Rattle.luau_lexer.specs.Tokens.{IsTexted, IsKind, IsToken, AreTokens, Keeps, IsRefusal, texts_behind, texts_after}
+use Rattle.syntax_tree.specs.declared.form.Form.{Form}
+use Rattle.syntax_tree.specs.declared.form.Opener.{Opener}
+use Rattle.syntax_tree.specs.Plain.{Word, Fixed, Named, Numeral, Text, BeginPiece, MidPiece, EndPiece, WholePiece}
+use Rattle.syntax_tree.specs.Spellings.{Place, start, Step, Gap, Lexeme, Passes, Ends, Fails, behind, form_of, Stands, StandInTurn, Spelled, spelled, tokens_of, Spells, HasFault}
+use Rattle.syntax_tree.specs.Tokens.{IsTexted, IsKind, IsToken, AreTokens, texts_behind, texts_after}
+use Rattle.luau_lexer.specs.Laws.{Keeps}
+use Rattle.luau_lexer.specs.Refusals.{refusal_of, IsRefusal}
 use Rattle.luau_lexer.specs.Finding.{FindsGap, FindsToken, Refuses}
 
 -- ---- one more
@@ -114,20 +116,16 @@ module _ (bytes : List ℕ) (p : Place) (before texts : List (List ℕ)) (tokens
       (tokens_of (start bytes) r.steps, record { steps = r.steps; to = p; turn = r.turn; «end» = h; tokens_are = refl }, tokens_kept texts new (tokens_of (start bytes) r.steps) tokens k r.tokens_are, same ∙ r.texts_are)
 
   -- the text has a fault here
-  fails_here : (fault : LexErr) → HasRead bytes p before texts tokens → Stands p (Fails fault) → HasFault bytes fault
+  fails_here : (fault : Refusal) → HasRead bytes p before texts tokens → Stands p (Fails fault) → HasFault bytes fault
   fails_here fault r h = record { steps = r.steps; to = p; turn = r.turn; fails = h }
 
-  pub read_fault : (fault : LexErr) → HasRead bytes p before texts tokens → Refuses (form_of p.bytes p.braces) p fault → IsRefusal bytes fault
+  pub read_fault : (e : LexErr) → HasRead bytes p before texts tokens → Refuses (form_of p.bytes p.braces) p e → IsRefusal bytes e
   unfolding fails_here
-  read_fault error.OutOfMemory r h = tt
-  read_fault (error.BadByte at) r h = fails_here (error.BadByte at) r h
-  read_fault (error.UnfinishedString at) r h = fails_here (error.UnfinishedString at) r h
-  read_fault (error.BadEscape at) r h = fails_here (error.BadEscape at) r h
-  read_fault (error.UnfinishedComment at) r h = fails_here (error.UnfinishedComment at) r h
-  read_fault (error.BadNumber at) r h = fails_here (error.BadNumber at) r h
-  read_fault (error.NotWholeLiteral at) r h = fails_here (error.NotWholeLiteral at) r h
-  read_fault (error.LiteralRange at) r h = fails_here (error.LiteralRange at) r h
-  read_fault (error.DoubleBrace at) r h = fails_here (error.DoubleBrace at) r h
+  read_fault e r h = by (refusal_of e) h
+    where
+      by : (o : Option Refusal) → IfSome o (λ fault. Stands p (Fails fault)) → IfSome o (HasFault bytes)
+      by None k = tt
+      by (Some fault) k = fails_here fault r k
 
 -- less is left
 pub gap_shortens : (form : Form) (p q : Place) → FindsGap form p q → length q.bytes < length p.bytes

@@ -7,7 +7,7 @@ use Rattle.std.proofs.Math.Nat.{pow-le-pow_left, pow-le-pow_right, mul-le-mul_le
 use Rattle.std.proofs.lemmas.Bool.Decides.{nat_tests}
 use Rattle.std.proofs.lemmas.Int.Digits.{digits_value-lt}
 use Rattle.std.proofs.lemmas.Str.Parse.{digits_value-take-le}
-use Rattle.luau_lexer.specs.Bytes.{is_digit, is_hex_digit}
+use Rattle.syntax_tree.specs.Bytes.{is_digit, is_hex_digit}
 
 pub decimal_value : (b : ℕ) → is_digit b ≡ true → digit_value b < 10
 decimal_value b h = grind (arith, nat_tests)

@@ -6,14 +6,14 @@ use Rattle.syntax_tree.specs.declared.token.TokenKind.{TokenKind}
 use Rattle.whole_num.specs.declared.literal.Read.{Read}
 use Rattle.whole_num.specs.declared.literal.Read.TheVariants as read
 use Rattle.whole_num.proofs.EachText.{each_text}
-use Rattle.luau_lexer.specs.declared.form.Form.{Form}
-use Rattle.luau_lexer.specs.declared.form.Form.TheVariants as form
-use Rattle.luau_lexer.specs.declared.form.Opener.{Opener}
-use Rattle.luau_lexer.specs.Bytes.{is_blank, is_digit, is_name_start, is_name_byte, is_number_byte, is_no_line_feed, begins}
-use Rattle.luau_lexer.specs.Gaps.{blanks_len, line_len, opening_level, closing_place, begins_comment}
-use Rattle.luau_lexer.specs.Plain.{name_len, number_len, exponent_len, begins_number, word_of, first_entry, symbols, symbol_at}
-use Rattle.luau_lexer.specs.Strings.{Body, Closed, Unclosed, Broken}
-use Rattle.luau_lexer.specs.Spellings.{Place, Step, Gap, Lexeme, What, Passes, Ends, behind, form_of, comment_form, bracket_form, ends_expression, long_comment, long_string, number, symbol, quoted, first_piece, next_piece, ends_piece, begins_two_braces, StandsAsString, StandsAsNumber, StandsAs, Stands}
+use Rattle.syntax_tree.specs.declared.form.Form.{Form}
+use Rattle.syntax_tree.specs.declared.form.Form.TheVariants as form
+use Rattle.syntax_tree.specs.declared.form.Opener.{Opener}
+use Rattle.syntax_tree.specs.Bytes.{is_blank, is_digit, is_name_start, is_name_byte, is_number_byte, is_no_line_feed, begins}
+use Rattle.syntax_tree.specs.Gaps.{blanks_len, line_len, opening_level, closing_place, begins_comment}
+use Rattle.syntax_tree.specs.Plain.{name_len, number_len, exponent_len, begins_number, word_of, first_entry, symbols, symbol_at}
+use Rattle.syntax_tree.specs.Strings.{Body, Closed, Unclosed, Broken}
+use Rattle.syntax_tree.specs.Spellings.{Place, Step, Gap, Lexeme, What, Passes, Ends, behind, form_of, comment_form, bracket_form, ends_expression, long_comment, long_string, number, symbol, quoted, first_piece, next_piece, ends_piece, begins_two_braces, StandsAsString, StandsAsNumber, StandsAs, Stands}
 use Rattle.luau_lexer.proofs.EachString.{each_body}
 
 -- ---- something stands at each place

@@ -2,9 +2,9 @@
 use Rattle.std.proofs.Common.{◌≡◌, ℕ, zero, suc, ◌+◌, ◌<◌, ◌≤◌, min, Bool, true, false, cond, nat_eq, nat_le, nat_lt, ◌&&◌, List, [], ◌∷◌, length, take, drop, refl, sym, subst, arith, inl, inr, length-drop}
 use Rattle.std.specs.List.{prefix_len}
 use Rattle.std.specs.Str.Parse.{digits_value}
-use Rattle.luau_lexer.specs.Bytes.{is_digit, is_hex_digit, is_line_feed, begins}
-use Rattle.luau_lexer.specs.Gaps.{blanks_len}
-use Rattle.luau_lexer.specs.Strings.{Part, Inner, Closing, Malformed, Unfinished, Span, AreInTurn, spans_text, spans_len, utf8, escaped, decimal_escape, hex_escape, code_digits, code_escape, escape, part_at, raw_escape, raw_part_at, Body, Closed, Unclosed, Broken, HasBody, Breaks}
+use Rattle.syntax_tree.specs.Bytes.{is_digit, is_hex_digit, is_line_feed, begins}
+use Rattle.syntax_tree.specs.Gaps.{blanks_len}
+use Rattle.syntax_tree.specs.Strings.{Part, Inner, Closing, Malformed, Unfinished, Span, AreInTurn, spans_text, spans_len, utf8, escaped, decimal_escape, hex_escape, code_digits, code_escape, escape, part_at, raw_escape, raw_part_at, Body, Closed, Unclosed, Broken, HasBody, Breaks}
 use Rattle.luau_lexer.proofs.UniqueStrings.{IsLast}
 
 -- a span has some bytes

@@ -1,28 +1,29 @@
 -- What the lexer finds, from what its functions answer.
-use Rattle.std.proofs.Common.{◌≡◌, ℕ, ◌+◌, ◌<◌, ◌≤◌, nat_eq, Bool, true, false, cond, List, [], ◌∷◌, ◌++◌, length, take, drop, Option, None, Some, option_map, slice_get, refl, sym, ap, subst, ◌∙◌, arith}
+use Rattle.std.proofs.Common.{◌≡◌, ℕ, ◌+◌, ◌<◌, ◌≤◌, nat_eq, Bool, true, false, cond, List, [], ◌∷◌, ◌++◌, length, take, drop, Option, None, Some, option_map, IfSome, slice_get, refl, sym, ap, subst, ◌∙◌, arith}
 use Rattle.std.proofs.lemmas.Option.{same_Some, none-some}
 use Rattle.byte_text.specs.Texts.{noted}
 use Rattle.byte_text.specs.declared.StrId.{StrId}
 use Rattle.whole_num.specs.Literals.{ReadsLiteral}
 use Rattle.whole_num.specs.declared.literal.Read.{Read}
+use Rattle.syntax_tree.specs.declared.refusal.Refusal.{Refusal}
 use Rattle.syntax_tree.specs.declared.token.Token.{Token}
 use Rattle.syntax_tree.specs.declared.token.TokenKind.{TokenKind}
 use Rattle.syntax_tree.specs.declared.token.TokenKind.TheVariants.{Name, Str, InterpBegin, InterpMid, InterpEnd, InterpWhole}
 use Rattle.luau_lexer.specs.declared.error.LexErr.{LexErr}
-use Rattle.luau_lexer.specs.declared.error.LexErr.TheVariants as error
-use Rattle.luau_lexer.specs.declared.form.Form.{Form}
-use Rattle.luau_lexer.specs.declared.form.Form.TheVariants as form
-use Rattle.luau_lexer.specs.declared.form.Opener.{Opener}
-use Rattle.luau_lexer.specs.declared.form.Opener.TheVariants as opener
+use Rattle.syntax_tree.specs.declared.form.Form.{Form}
+use Rattle.syntax_tree.specs.declared.form.Form.TheVariants as form
+use Rattle.syntax_tree.specs.declared.form.Opener.{Opener}
+use Rattle.syntax_tree.specs.declared.form.Opener.TheVariants as opener
 use Rattle.luau_lexer.specs.declared.lexer.Found.{Found}
 use Rattle.luau_lexer.specs.declared.lexer.Found.TheVariants as found
-use Rattle.luau_lexer.specs.Bytes.{line_feeds, begins}
-use Rattle.luau_lexer.specs.Plain.{Word, Fixed, Text, symbol_at, name_len, number_len, word_of, BeginPiece, MidPiece, EndPiece, WholePiece, word_as}
-use Rattle.luau_lexer.specs.Strings.{Body, Closed, Unclosed, Broken, HasBody, long_text}
-use Rattle.luau_lexer.specs.Spellings.{Place, What, Passes, Fails, Lexeme, StandsAs, StandsAsString, further, number, symbol, long_string, braces_behind, quoted, first_piece, next_piece, ends_piece, begins_two_braces, outer}
-use Rattle.luau_lexer.specs.Tokens.{IsKind, texts_behind}
+use Rattle.syntax_tree.specs.Bytes.{line_feeds, begins}
+use Rattle.syntax_tree.specs.Plain.{Word, Fixed, Text, symbol_at, name_len, number_len, word_of, BeginPiece, MidPiece, EndPiece, WholePiece, word_as}
+use Rattle.syntax_tree.specs.Strings.{Body, Closed, Unclosed, Broken, HasBody, long_text}
+use Rattle.syntax_tree.specs.Spellings.{Place, What, Passes, Fails, Lexeme, StandsAs, StandsAsString, further, number, symbol, long_string, braces_behind, quoted, first_piece, next_piece, ends_piece, begins_two_braces, outer}
+use Rattle.syntax_tree.specs.Tokens.{IsKind, texts_behind}
+use Rattle.luau_lexer.specs.Refusals.{refusal_of}
 use Rattle.luau_lexer.specs.Finding.{Finds, Refuses, FailsAsString, RefusesString, OpensExpression, IsDoubleBrace}
-use Rattle.luau_lexer.specs.Gaps.{closing_place}
+use Rattle.syntax_tree.specs.Gaps.{closing_place}
 use Rattle.luau_lexer.specs.declared.plain.Symbol.{Symbol}
 use Rattle.luau_lexer.proofs.Tables.{Entry, IsEntry, read_symbol, entry_read, symbol_fits}
 
@@ -71,7 +72,7 @@ name_notes old texts word (Some e) h is = absurd (none-some e.1 h)
 -- ---- strings
 
 -- a fault of a string is one of its form
-pub string_refused : (ends : ℕ → Bool) (p : Place) (makes : Body → What) (fault : LexErr) → makes Unclosed ≡ quoted p Unclosed → ((k : ℕ) → makes (Broken k) ≡ quoted p (Broken k)) → FailsAsString ends p fault → StandsAsString ends makes p.bytes (Fails fault)
+pub string_refused : (ends : ℕ → Bool) (p : Place) (makes : Body → What) (fault : Refusal) → makes Unclosed ≡ quoted p Unclosed → ((k : ℕ) → makes (Broken k) ≡ quoted p (Broken k)) → FailsAsString ends p fault → StandsAsString ends makes p.bytes (Fails fault)
 string_refused ends p makes fault unclosed broken f = by f.body f.has_body f.is
   where
     by : (b : Body) → HasBody ends (drop 1 p.bytes) b → quoted p b ≡ Fails fault → StandsAsString ends makes p.bytes (Fails fault)
@@ -80,16 +81,12 @@ string_refused ends p makes fault unclosed broken f = by f.body f.has_body f.is
     by (Broken k) has is = record { body = Broken k; has_body = has; is = sym is ∙ sym (broken k) }
 
 -- each refusal but want of memory is the fault that it names
-by_fault : (ends : ℕ → Bool) (form : Form) (p : Place) → ((fault : LexErr) → FailsAsString ends p fault → StandsAs form p (Fails fault)) → (fault : LexErr) → RefusesString ends p fault → Refuses form p fault
-by_fault ends form p each error.OutOfMemory h = tt
-by_fault ends form p each (error.BadByte at) h = each (error.BadByte at) h
-by_fault ends form p each (error.UnfinishedString at) h = each (error.UnfinishedString at) h
-by_fault ends form p each (error.BadEscape at) h = each (error.BadEscape at) h
-by_fault ends form p each (error.UnfinishedComment at) h = each (error.UnfinishedComment at) h
-by_fault ends form p each (error.BadNumber at) h = each (error.BadNumber at) h
-by_fault ends form p each (error.NotWholeLiteral at) h = each (error.NotWholeLiteral at) h
-by_fault ends form p each (error.LiteralRange at) h = each (error.LiteralRange at) h
-by_fault ends form p each (error.DoubleBrace at) h = each (error.DoubleBrace at) h
+by_fault : (ends : ℕ → Bool) (form : Form) (p : Place) → ((fault : Refusal) → FailsAsString ends p fault → StandsAs form p (Fails fault)) → (e : LexErr) → RefusesString ends p e → Refuses form p e
+by_fault ends form p each e h = by (refusal_of e) h
+  where
+    by : (o : Option Refusal) → IfSome o (FailsAsString ends p) → IfSome o (λ fault. StandsAs form p (Fails fault))
+    by None k = tt
+    by (Some fault) k = each fault k
 
 pub quoted_refused : (quote : ℕ) (p : Place) (fault : LexErr) → RefusesString (λ b. nat_eq b quote) p fault → Refuses (form.Quoted quote) p fault
 quoted_refused quote p fault h =
@@ -106,17 +103,16 @@ next_refused p fault h =
 -- ---- pieces
 
 -- two braces at the end of a piece
-piece_doubled : (p : Place) (text : List ℕ) (len : ℕ) (fault : LexErr) (pass : What) → IsDoubleBrace p len fault → Fails fault ≡ cond (begins_two_braces (drop (1 + len) p.bytes)) (Fails (error.DoubleBrace (p.at + 1 + len))) pass
-piece_doubled p text len fault pass d =
-    ap Fails d.is ∙ sym (ap (λ v. cond v (Fails (error.DoubleBrace (p.at + 1 + len))) pass) d.double)
+piece_doubled : (p : Place) (len : ℕ) (fail pass : What) → begins_two_braces (drop (1 + len) p.bytes) ≡ true → fail ≡ cond (begins_two_braces (drop (1 + len) p.bytes)) fail pass
+piece_doubled p len fail pass double = sym (ap (λ v. cond v fail pass) double)
 
 pub first_doubled : (p : Place) (text : List ℕ) (len : ℕ) (fault : LexErr) → HasBody ends_piece (drop 1 p.bytes) (Closed text len) → IsDoubleBrace p len fault → Refuses form.FirstPiece p fault
 first_doubled p text len fault has d =
-    subst (Refuses form.FirstPiece p) (sym d.is) (record { body = Closed text len; has_body = has; is = piece_doubled p text len (error.DoubleBrace (p.at + 1 + len)) _ (record { double = d.double; is = refl }) })
+    subst (Refuses form.FirstPiece p) (sym d.is) (record { body = Closed text len; has_body = has; is = piece_doubled p len _ _ d.double })
 
 pub next_doubled : (p : Place) (text : List ℕ) (len : ℕ) (fault : LexErr) → HasBody ends_piece (drop 1 p.bytes) (Closed text len) → IsDoubleBrace p len fault → Refuses form.NextPiece p fault
 next_doubled p text len fault has d =
-    subst (Refuses form.NextPiece p) (sym d.is) (record { body = Closed text len; has_body = has; is = piece_doubled p text len (error.DoubleBrace (p.at + 1 + len)) _ (record { double = d.double; is = refl }) })
+    subst (Refuses form.NextPiece p) (sym d.is) (record { body = Closed text len; has_body = has; is = piece_doubled p len _ _ d.double })
 
 -- a piece passes, as what it ends at says
 piece_passed : (p : Place) (len : ℕ) (opens : Bool) (double begin whole : What) → OpensExpression p len opens → cond opens begin whole ≡ cond (begins_two_braces (drop (1 + len) p.bytes)) double (cond (begins (λ b. nat_eq b 123) (drop (1 + len) p.bytes)) begin whole)

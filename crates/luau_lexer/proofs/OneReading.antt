@@ -1,7 +1,7 @@
 -- Each text has either one list of tokens or one fault.
 use Rattle.std.proofs.Common.{◌≡◌, ℕ, zero, suc, ◌<◌, ◌≤◌, List, [], ◌∷◌, length, refl, sym, ap, ◌∙◌, arith, length-drop}
-use Rattle.luau_lexer.specs.declared.error.LexErr.{LexErr}
-use Rattle.luau_lexer.specs.Spellings.{Place, start, Step, What, Passes, Ends, Fails, behind, Stands, StandInTurn, Spelled, tokens_of, Spells, HasFault}
+use Rattle.syntax_tree.specs.declared.refusal.Refusal.{Refusal}
+use Rattle.syntax_tree.specs.Spellings.{Place, start, Step, What, Passes, Ends, Fails, behind, Stands, StandInTurn, Spelled, tokens_of, Spells, HasFault}
 use Rattle.luau_lexer.specs.Laws.{Reading, Tokens, Fault, HasReading, HasOneReading, AllHaveOneReading}
 use Rattle.luau_lexer.proofs.UniquePlaces.{IsStop, turn_once}
 use Rattle.luau_lexer.proofs.EachPlace.{each_place, step_len, step_some, end_stays, behind_bytes}
@@ -72,11 +72,11 @@ tokens_once bytes ts us g h =
     let same = turn_once (start bytes) g.steps h.steps g.to h.to Ends Ends g.turn h.turn g.end h.end tt tt in
     g.tokens_are ∙ ap (tokens_of (start bytes)) same.0 ∙ sym h.tokens_are
 
-fault_once : (bytes : List ℕ) (e f : LexErr) → HasFault bytes e → HasFault bytes f → e ≡ f
+fault_once : (bytes : List ℕ) (e f : Refusal) → HasFault bytes e → HasFault bytes f → e ≡ f
 fault_once bytes e f g h =
     let same = (turn_once (start bytes) g.steps h.steps g.to h.to (Fails e) (Fails f) g.turn h.turn g.fails h.fails tt tt).1 in cc
 
-pub not_both : (bytes : List ℕ) (ts : List Spelled) (e : LexErr) → Spells bytes ts → HasFault bytes e → ⊥
+pub not_both : (bytes : List ℕ) (ts : List Spelled) (e : Refusal) → Spells bytes ts → HasFault bytes e → ⊥
 not_both bytes ts e g h =
     let same = (turn_once (start bytes) g.steps h.steps g.to h.to Ends (Fails e) g.turn h.turn g.end h.fails tt tt).1 in cc
 

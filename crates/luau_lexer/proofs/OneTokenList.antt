@@ -5,10 +5,10 @@ use Rattle.byte_text.specs.Texts.{fixed_texts, AreDistinct}
 use Rattle.byte_text.proofs.Numbering.{AreDistinct-noted, AreDistinct-fixed}
 use Rattle.syntax_tree.specs.declared.token.Token.{Token}
 use Rattle.syntax_tree.specs.declared.token.TokenKind.{TokenKind}
-use Rattle.luau_lexer.specs.declared.error.LexErr.{LexErr}
-use Rattle.luau_lexer.specs.Plain.{Word, Fixed, Named, Numeral, Text, BeginPiece, MidPiece, EndPiece, WholePiece}
-use Rattle.luau_lexer.specs.Spellings.{Spelled, Spells, HasFault}
-use Rattle.luau_lexer.specs.Tokens.{IsTexted, IsKind, IsToken, AreTokens, texts_behind, texts_after, HasTokens}
+use Rattle.syntax_tree.specs.declared.refusal.Refusal.{Refusal}
+use Rattle.syntax_tree.specs.Plain.{Word, Fixed, Named, Numeral, Text, BeginPiece, MidPiece, EndPiece, WholePiece}
+use Rattle.syntax_tree.specs.Spellings.{Spelled, Spells, HasFault}
+use Rattle.syntax_tree.specs.Tokens.{IsTexted, IsKind, IsToken, AreTokens, texts_behind, texts_after, HasTokens}
 use Rattle.luau_lexer.specs.Laws.{TokenListsAreOne}
 use Rattle.luau_lexer.proofs.OneReading.{tokens_once, not_both}
 
@@ -88,5 +88,5 @@ lexed bytes old new tokens fresh h = record {
 }
 
 -- a text with tokens has no fault
-pub tokens_or_fault : (bytes : List ℕ) (tokens : List Token) (fault : LexErr) → HasTokens bytes tokens → HasFault bytes fault → ⊥
+pub tokens_or_fault : (bytes : List ℕ) (tokens : List Token) (fault : Refusal) → HasTokens bytes tokens → HasFault bytes fault → ⊥
 tokens_or_fault bytes tokens fault h f = not_both bytes h.spelled fault h.spells f

@@ -8,7 +8,7 @@ use Rattle.std.proofs.lemmas.Slice.Eq.{starts_is}
 use Rattle.std.proofs.lemmas.Option.{same_Some, none-some, slice_get-map}
 use Rattle.syntax_tree.specs.declared.token.TokenKind.{TokenKind}
 use Rattle.luau_lexer.specs.declared.plain.Symbol.{Symbol}
-use Rattle.luau_lexer.specs.Plain.{symbols, first_entry, symbol_at}
+use Rattle.syntax_tree.specs.Plain.{symbols, first_entry, symbol_at}
 
 abbrev pub Entry : Type 0
 Entry = List ℕ × TokenKind

@@ -4,7 +4,7 @@ use Rattle.std.specs.List.{list_any}
 use Rattle.std.specs.Str.{bytes_eq}
 use Rattle.std.proofs.lemmas.Option.{none-some}
 use Rattle.byte_text.specs.Texts.{noted}
-use Rattle.luau_lexer.specs.Tokens.{Keeps}
+use Rattle.luau_lexer.specs.Laws.{Keeps}
 
 front_kept : (texts : List (List ℕ)) (more : List (List ℕ)) (i : ℕ) (t : List ℕ) → slice_get texts i ≡ Some t → slice_get (texts ++ more) i ≡ Some t
 front_kept [] more i t h = absurd (none-some t h)

@@ -1,11 +1,11 @@
 -- One thing stands at a place, and things stand in turn in one way.
 use Rattle.std.proofs.Common.{◌≡◌, ℕ, List, [], ◌∷◌, take, drop, Bool, nat_eq, refl, sym, ap, subst, ◌∙◌}
 use Rattle.whole_num.proofs.Literals.{reads_once}
-use Rattle.luau_lexer.specs.declared.form.Form.{Form}
-use Rattle.luau_lexer.specs.declared.form.Form.TheVariants as form
-use Rattle.luau_lexer.specs.Strings.{Body}
-use Rattle.luau_lexer.specs.Plain.{number_len}
-use Rattle.luau_lexer.specs.Spellings.{Place, Step, What, Passes, behind, form_of, quoted, first_piece, next_piece, ends_piece, number, StandsAsString, StandsAsNumber, StandsAs, Stands, StandInTurn}
+use Rattle.syntax_tree.specs.declared.form.Form.{Form}
+use Rattle.syntax_tree.specs.declared.form.Form.TheVariants as form
+use Rattle.syntax_tree.specs.Strings.{Body}
+use Rattle.syntax_tree.specs.Plain.{number_len}
+use Rattle.syntax_tree.specs.Spellings.{Place, Step, What, Passes, behind, form_of, quoted, first_piece, next_piece, ends_piece, number, StandsAsString, StandsAsNumber, StandsAs, Stands, StandInTurn}
 use Rattle.luau_lexer.proofs.UniqueStrings.{body_once}
 
 string_once : (ends : ℕ → Bool) (makes : Body → What) (bytes : List ℕ) (a b : What) → StandsAsString ends makes bytes a → StandsAsString ends makes bytes b → a ≡ b

@@ -1,6 +1,6 @@
 -- The body of a string is one.
 use Rattle.std.proofs.Common.{◌≡◌, ℕ, Bool, List, [], ◌∷◌, drop, refl, sym, ap, subst, ◌∙◌, inl, inr}
-use Rattle.luau_lexer.specs.Strings.{Part, Inner, Closing, Malformed, Unfinished, Span, AreInTurn, spans_text, spans_len, part_at, raw_part_at, Body, Closed, Unclosed, Broken, HasBody, Closes, Stops, Breaks}
+use Rattle.syntax_tree.specs.Strings.{Part, Inner, Closing, Malformed, Unfinished, Span, AreInTurn, spans_text, spans_len, part_at, raw_part_at, Body, Closed, Unclosed, Broken, HasBody, Closes, Stops, Breaks}
 
 -- what is no span
 abbrev pub IsLast : Part → Type 0

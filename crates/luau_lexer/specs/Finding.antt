@@ -1,20 +1,22 @@
 -- What the lexer finds at a place.
-use Rattle.std.specs.Prelude.{◌≡◌, ℕ, ◌+◌, ◌<◌, ◌≤◌, nat_eq, Bool, true, false, List, length, drop}
+use Rattle.std.specs.Prelude.{◌≡◌, ℕ, ◌+◌, ◌<◌, ◌≤◌, nat_eq, Bool, true, false, List, length, drop, IfSome}
+use Rattle.syntax_tree.specs.declared.refusal.Refusal.{Refusal}
 use Rattle.syntax_tree.specs.declared.token.Token.{Token}
 use Rattle.luau_lexer.specs.declared.error.LexErr.{LexErr}
-use Rattle.luau_lexer.specs.declared.error.LexErr.TheVariants.{OutOfMemory, DoubleBrace}
-use Rattle.luau_lexer.specs.declared.form.Form.{Form}
-use Rattle.luau_lexer.specs.declared.form.Form.TheVariants as form
+use Rattle.luau_lexer.specs.declared.error.LexErr.TheVariants.{DoubleBrace}
+use Rattle.syntax_tree.specs.declared.form.Form.{Form}
+use Rattle.syntax_tree.specs.declared.form.Form.TheVariants as form
 use Rattle.luau_lexer.specs.declared.lexer.Found.{Found}
 use Rattle.luau_lexer.specs.declared.lexer.Found.TheVariants as found
 use Rattle.luau_lexer.specs.declared.lexer.Closed.{Closed}
-use Rattle.luau_lexer.specs.Bytes.{begins}
-use Rattle.luau_lexer.specs.Gaps.{blanks_len, line_len}
-use Rattle.luau_lexer.specs.Strings.{Body, HasBody}
-use Rattle.luau_lexer.specs.Strings as strings
-use Rattle.luau_lexer.specs.Plain.{Word, name_len, number_len}
-use Rattle.luau_lexer.specs.Spellings.{Place, Gap, Lexeme, Passes, Ends, Fails, StandsAs, further, spelled, quoted, begins_two_braces}
-use Rattle.luau_lexer.specs.Tokens.{IsToken, texts_behind}
+use Rattle.syntax_tree.specs.Bytes.{begins}
+use Rattle.syntax_tree.specs.Gaps.{blanks_len, line_len}
+use Rattle.syntax_tree.specs.Strings.{Body, HasBody}
+use Rattle.syntax_tree.specs.Strings as strings
+use Rattle.syntax_tree.specs.Plain.{Word, name_len, number_len}
+use Rattle.syntax_tree.specs.Spellings.{Place, Gap, Lexeme, Passes, Ends, Fails, StandsAs, further, spelled, quoted, begins_two_braces}
+use Rattle.syntax_tree.specs.Tokens.{IsToken, texts_behind}
+use Rattle.luau_lexer.specs.Refusals.{refusal_of}
 
 -- there is room for what a form takes
 abbrev pub IsRoomFor : Form → (bytes : List ℕ) → Type 0
@@ -54,8 +56,7 @@ Finds form p q old new found.Finished = StandsAs form p Ends × (new ≡ old)
 
 -- a fault stands at a place, if its form is this
 abbrev pub Refuses : Form → Place → LexErr → Type 0
-Refuses form p OutOfMemory = Unit {0}
-Refuses form p fault = StandsAs form p (Fails fault)
+Refuses form p e = IfSome (refusal_of e) (λ fault. StandsAs form p (Fails fault))
 
 -- the string that begins at a place is closed, with this text and this length of its body
 pub record IsClosed (ends : ℕ → Bool) (p : Place) (body : Closed) : Type 0 where
@@ -63,14 +64,13 @@ pub record IsClosed (ends : ℕ → Bool) (p : Place) (body : Closed) : Type 0 w
   pub within : 1 + body.len < length p.bytes
 
 -- the string that begins at a place has a fault
-pub record FailsAsString (ends : ℕ → Bool) (p : Place) (fault : LexErr) : Type 0 where
+pub record FailsAsString (ends : ℕ → Bool) (p : Place) (fault : Refusal) : Type 0 where
   pub body : Body
   pub has_body : HasBody ends (drop 1 p.bytes) body
   pub is : quoted p body ≡ Fails fault
 
 abbrev pub RefusesString : (ends : ℕ → Bool) → Place → LexErr → Type 0
-RefusesString ends p OutOfMemory = Unit {0}
-RefusesString ends p fault = FailsAsString ends p fault
+RefusesString ends p e = IfSome (refusal_of e) (FailsAsString ends p)
 
 -- a piece with a body of this length ends at one `{`, or at a backquote
 pub record OpensExpression (p : Place) (len : ℕ) (opens : Bool) : Type 0 where

@@ -1,17 +1,19 @@
--- Each text is read in one way.
-use Rattle.std.specs.Prelude.{◌≡◌, ℕ, ◌⊎◌, List, Result, Ok, Err}
+-- Each text is read in one way, and numbers of texts stay.
+use Rattle.std.specs.Prelude.{◌≡◌, ℕ, ◌⊎◌, List, Some, Result, Ok, Err, slice_get}
 use Rattle.std.specs.declared.alloc.Global.{Global}
 use Rattle.std.specs.declared.vec.Vec.{Vec}
+use Rattle.syntax_tree.specs.declared.refusal.Refusal.{Refusal}
 use Rattle.syntax_tree.specs.declared.token.Token.{Token}
 use Rattle.luau_lexer.specs.declared.error.LexErr.{LexErr}
 use Rattle.luau_lexer.specs.declared.error.LexErr.TheVariants.{OutOfMemory}
-use Rattle.luau_lexer.specs.Spellings.{Spelled, Spells, HasFault}
-use Rattle.luau_lexer.specs.Tokens.{AreTokens, HasTokens}
+use Rattle.syntax_tree.specs.Spellings.{Spelled, Spells, HasFault}
+use Rattle.syntax_tree.specs.Tokens.{AreTokens, HasTokens}
+use Rattle.luau_lexer.specs.Refusals.{refusal_of}
 
 -- the tokens of a text, or its fault
 pub data Reading : Type 0 where
   Tokens : List Spelled → Reading
-  Fault : LexErr → Reading
+  Fault : Refusal → Reading
 
 abbrev pub HasReading : (bytes : List ℕ) → Reading → Type 0
 HasReading bytes (Tokens spelled) = Spells bytes spelled
@@ -36,4 +38,8 @@ abbrev pub Answers : (texts : List (List ℕ)) → Reading → Result (Vec Token
 Answers texts (Tokens spelled) (Ok tokens) = AreTokens texts spelled tokens.items
 Answers texts (Tokens spelled) (Err e) = e ≡ OutOfMemory
 Answers texts (Fault fault) (Ok tokens) = ⊥
-Answers texts (Fault fault) (Err e) = (e ≡ fault) ⊎ (e ≡ OutOfMemory)
+Answers texts (Fault fault) (Err e) = (refusal_of e ≡ Some fault) ⊎ (e ≡ OutOfMemory)
+
+-- each text that has a number keeps it
+pub record Keeps (old new : List (List ℕ)) : Type 0 where
+  pub at : (i : ℕ) (text : List ℕ) → slice_get old i ≡ Some text → slice_get new i ≡ Some text

@@ -1,9 +1,4 @@
-pub mod Bytes
-pub mod Gaps
-pub mod Plain
-pub mod Strings
-pub mod Spellings
-pub mod Tokens
+pub mod Refusals
 pub mod Laws
 pub mod Parts
 pub mod Finding

@@ -8,8 +8,8 @@ use Rattle.luau_lexer.specs.declared.strings.End.{End}
 use Rattle.luau_lexer.specs.declared.strings.End.TheVariants as ending
 use Rattle.luau_lexer.specs.declared.strings.Body.{Body as Read}
 use Rattle.luau_lexer.specs.declared.strings.Body.TheVariants as read
-use Rattle.luau_lexer.specs.Strings.{Part, Inner, Closing, Malformed, Unfinished, Body, Closed, Unclosed, Broken, Span, AreInTurn, raw_part_at, utf8}
-use Rattle.luau_lexer.specs.Spellings.{ends_piece}
+use Rattle.syntax_tree.specs.Strings.{Part, Inner, Closing, Malformed, Unfinished, Body, Closed, Unclosed, Broken, Span, AreInTurn, raw_part_at, utf8}
+use Rattle.syntax_tree.specs.Spellings.{ends_piece}
 
 -- the bytes that a part stands for
 abbrev pub meant : Meaning → List ℕ

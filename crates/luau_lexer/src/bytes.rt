@@ -1,7 +1,7 @@
 //! Kinds of bytes.
 
 ghost use Rattle.std.specs.Prelude.{◌≡◌, nat_eq};
-ghost use Rattle.luau_lexer.specs.Bytes.{is_blank, is_digit, is_hex_digit, is_name_start, is_name_byte, is_number_byte, is_no_line_feed, is_equals, begins};
+ghost use Rattle.syntax_tree.specs.Bytes.{is_blank, is_digit, is_hex_digit, is_name_start, is_name_byte, is_number_byte, is_no_line_feed, is_equals, begins};
 
 // A blank, tab, line feed, vertical tab, form feed or carriage return.
 pub(crate) fn is_blank(b: u8) -> bool

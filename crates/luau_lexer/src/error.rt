@@ -1,7 +1,11 @@
 //! Why a text has no tokens.
 
+ghost use Rattle.std.specs.Prelude.{◌≡◌};
+ghost use Rattle.luau_lexer.specs.Refusals.{refusal_of};
+
 use resource::OutOfMemory;
 use std::alloc::{AllocError, AllocFailed};
+use syntax_tree::{Cause, Refusal};
 
 /// Why a text has no tokens. Each `at` is an offset in bytes from 0.
 #[derive(Clone, Copy, PartialEq, Eq, Debug)]
@@ -25,6 +29,26 @@ pub enum LexErr {
     DoubleBrace { at: usize },
     /// There was no memory left. It says nothing of the text.
     OutOfMemory,
+}
+
+impl LexErr {
+    /// Why and where the text is refused. There is no refusal where memory ran out.
+    pub fn refusal(self) -> Option<Refusal>
+        ensures { result ≡ refusal_of self }
+    {
+        let (cause, at) = match self {
+            LexErr::BadByte { at } => (Cause::BadByte, at),
+            LexErr::UnfinishedString { at } => (Cause::UnfinishedString, at),
+            LexErr::BadEscape { at } => (Cause::BadEscape, at),
+            LexErr::UnfinishedComment { at } => (Cause::UnfinishedComment, at),
+            LexErr::BadNumber { at } => (Cause::BadNumber, at),
+            LexErr::NotWholeLiteral { at } => (Cause::NotWholeLiteral, at),
+            LexErr::LiteralRange { at } => (Cause::LiteralRange, at),
+            LexErr::DoubleBrace { at } => (Cause::DoubleBrace, at),
+            LexErr::OutOfMemory => return None,
+        };
+        Some(Refusal { cause, at })
+    }
 }
 
 impl From<OutOfMemory> for LexErr {

@@ -2,8 +2,8 @@
 
 ghost use Rattle.std.specs.Prelude.{◌≡◌, ◌+◌, ◌≤◌, length, IsTrue, IfSome};
 ghost use Rattle.std.specs.List.{prefix_len};
-ghost use Rattle.luau_lexer.specs.Gaps.{blanks_len, line_len, bracket_level, is_level, closing_place, begins_comment};
-ghost use Rattle.luau_lexer.specs.Bytes.{is_equals};
+ghost use Rattle.syntax_tree.specs.Gaps.{blanks_len, line_len, bracket_level, is_level, closing_place, begins_comment};
+ghost use Rattle.syntax_tree.specs.Bytes.{is_equals};
 
 use crate::bytes::{begins_with, is_blank, is_equals, is_no_line_feed};
 

@@ -2,18 +2,17 @@
 
 ghost use Rattle.std.specs.Prelude.{◌≡◌, ℕ, ◌+◌, ◌++◌, ◌∷◌, [], ◌≤◌, ◌<◌, ◌^◌, length, take, drop, List, IfOk, IfErr, OnOk, Some, slice_get};
 ghost use Rattle.byte_text.specs.Texts.{noted};
-ghost use Rattle.luau_lexer.specs.Bytes.{line_feeds};
-ghost use Rattle.luau_lexer.specs.Spellings.{start, further, outer, ends_expression, form_of, braces_behind, begins_two_braces, comment_form, bracket_form};
-ghost use Rattle.luau_lexer.specs.Gaps.{opening_level};
+ghost use Rattle.syntax_tree.specs.Bytes.{line_feeds};
+ghost use Rattle.syntax_tree.specs.Spellings.{start, further, outer, ends_expression, form_of, braces_behind, begins_two_braces, comment_form, bracket_form};
+ghost use Rattle.syntax_tree.specs.Gaps.{opening_level};
 ghost use Rattle.luau_lexer.specs.declared.lexer.Found.TheVariants as found;
-ghost use Rattle.luau_lexer.specs.Tokens.{Keeps};
+ghost use Rattle.luau_lexer.specs.Laws.{Keeps};
 ghost use Rattle.luau_lexer.specs.Finding.{IsRoomFor, Finds, Refuses, IsClosed, RefusesString, OpensExpression, IsDoubleBrace};
 ghost use Rattle.luau_lexer.specs.Parts.{ends_at};
-ghost use Rattle.luau_lexer.specs.declared.form.Form.TheVariants as form;
+ghost use Rattle.syntax_tree.specs.declared.form.Form.TheVariants as form;
 
 use crate::LexErr;
 use crate::bytes::{begins_with, is_blank, is_name_start};
-use crate::form::{Form, Opener};
 use crate::gaps::{begins_comment, blanks_len, bracket_level, closing_place, line_len};
 use crate::plain::{begins_number, name_len, number_len, reserved_word, symbol_at};
 use crate::strings::{Body, End, long_text, read_body};
@@ -21,7 +20,7 @@ use byte_text::{Interner, StrId};
 use resource::OutOfMemory;
 use std::alloc::Global;
 use std::marker::Model;
-use syntax_tree::{Token, TokenKind};
+use syntax_tree::{Form, Opener, Token, TokenKind};
 use whole_num::{Read, read_literal};
 
 /// What was found at a place.
@@ -46,7 +45,7 @@ pub(crate) struct Lexer<'a> {
 
 impl<'a> Model for Lexer<'a> {
     ghost use Rattle.std.specs.Prelude.{◌≤◌, ◌+◌, drop, length};
-    ghost use Rattle.luau_lexer.specs.Spellings.{Place};
+    ghost use Rattle.syntax_tree.specs.Spellings.{Place};
 
     ghost Value = { Place };
 

@@ -1,11 +1,11 @@
 //! The tokens of a script, with their places, or its first fault.
 //!
-//! The rules stand in `docs/LANGUAGE.md`, under 'Tokens'. The definitions of `specs/` state them on whole texts.
+//! The rules stand in `docs/LANGUAGE.md`, under 'Tokens'. The definitions of `syntax_tree` state them on whole
+//! texts.
 #![tactic(auto)]
 
 mod bytes;
 mod error;
-mod form;
 mod gaps;
 mod laws;
 mod lexer;
@@ -13,9 +13,10 @@ mod plain;
 mod strings;
 
 ghost use Rattle.std.specs.Prelude.{◌≡◌, List, IfOk, IfErr};
-ghost use Rattle.luau_lexer.specs.Spellings.{Spelled, Spells};
-ghost use Rattle.luau_lexer.specs.Tokens.{AreTokens, Keeps, IsRefusal, texts_after};
-ghost use Rattle.luau_lexer.specs.Laws.{Reading, HasReading, Answers};
+ghost use Rattle.syntax_tree.specs.Spellings.{Spelled, Spells};
+ghost use Rattle.syntax_tree.specs.Tokens.{AreTokens, texts_after};
+ghost use Rattle.luau_lexer.specs.Refusals.{IsRefusal};
+ghost use Rattle.luau_lexer.specs.Laws.{Keeps, Reading, HasReading, Answers};
 
 use byte_text::Interner;
 pub use error::LexErr;

@@ -3,8 +3,8 @@
 ghost use Rattle.std.specs.Prelude.{◌≡◌, ◌≤◌, ◌<◌, ◌||◌, nat_eq, length, option_map, IfSome, map, Some, slice_get};
 ghost use Rattle.std.specs.List.{prefix_len, position, starts_with};
 ghost use Rattle.std.specs.Str.{bytes_eq};
-ghost use Rattle.luau_lexer.specs.Bytes.{is_number_byte, begins};
-ghost use Rattle.luau_lexer.specs.Plain.{name_len, reserved, symbols, first_entry, symbol_at, begins_number, exponent_len, number_len};
+ghost use Rattle.syntax_tree.specs.Bytes.{is_number_byte, begins};
+ghost use Rattle.syntax_tree.specs.Plain.{name_len, reserved, symbols, first_entry, symbol_at, begins_number, exponent_len, number_len};
 
 use crate::bytes::{begins_with, begins_with_digit, is_digit, is_name_byte, is_number_byte};
 use syntax_tree::TokenKind;

@@ -4,8 +4,8 @@ ghost use Rattle.std.specs.Prelude.{◌≡◌, ◌+◌, ◌++◌, ◌≤◌, ◌
 ghost use Rattle.std.specs.List.{prefix_len};
 ghost use Rattle.std.specs.Str.Parse.{AllDigits, digits_value};
 ghost use Rattle.std.specs.Char.{digit_value};
-ghost use Rattle.luau_lexer.specs.Bytes.{is_digit, is_hex_digit};
-ghost use Rattle.luau_lexer.specs.Strings.{utf8, escaped, decimal_escape, hex_escape, code_digits, code_escape, escape, part_at, raw_escape, raw_part_at, HasBody, long_text, unix_lines};
+ghost use Rattle.syntax_tree.specs.Bytes.{is_digit, is_hex_digit};
+ghost use Rattle.syntax_tree.specs.Strings.{utf8, escaped, decimal_escape, hex_escape, code_digits, code_escape, escape, part_at, raw_escape, raw_part_at, HasBody, long_text, unix_lines};
 ghost use Rattle.luau_lexer.specs.Parts.{meant, part_of, ends_at, body_of, IsMeaning, IsWithin, IsBodyWithin, IsBroken};
 ghost use Rattle.luau_lexer.specs.declared.strings.Meaning.TheVariants as meaning;
 ghost use Rattle.luau_lexer.specs.declared.strings.Part.TheVariants as found;

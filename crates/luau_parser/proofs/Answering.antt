@@ -10,7 +10,8 @@ use Rattle.syntax_tree.specs.Numbers.{numbered}
 use Rattle.parse_steps.specs.Steps.{most}
 use Rattle.luau_parser.specs.declared.error.ParseErr.{ParseErr}
 use Rattle.luau_parser.specs.declared.error.ParseErr.TheVariants as refusal
-use Rattle.luau_parser.specs.Parsed.{IsShallow, IsParsed, IsRefusal, Answers}
+use Rattle.syntax_tree.specs.Parsed.{IsShallow, IsParsed}
+use Rattle.luau_parser.specs.Refusals.{IsRefusal, Answers}
 use Rattle.luau_parser.proofs.OneTree.{same_block}
 
 shallow_derives : {ts : List Token} {tree : Tree} → IsShallow ts tree → Derives ts tree

@@ -12,7 +12,7 @@ use Rattle.syntax_tree.specs.Nest.{nest, nest_func}
 use Rattle.syntax_tree.specs.Numbers.{numbered}
 use Rattle.syntax_tree.specs.Places.{kind_at, Has}
 use Rattle.type_skip.specs.Reading.{SameBelow}
-use Rattle.type_skip.specs.Refusals.{offset_at, end_of, BeginsAs}
+use Rattle.syntax_tree.specs.Places.{offset_at, end_of, BeginsAs}
 use Rattle.type_skip.proofs.Passing.{same_kinds, there_or_past}
 use Rattle.parse_steps.specs.Items.{Item, block}
 use Rattle.parse_steps.specs.Steps.{most, Leads, IsDeep, deep_node, deep_type, left_over}
@@ -23,7 +23,7 @@ use Rattle.parse_steps.proofs.Kept.{keeps}
 use Rattle.expression_parser.specs.declared.parts.Block.{Block}
 use Rattle.expression_parser.specs.declared.fault.Fault.{Fault}
 use Rattle.expression_parser.specs.declared.fault.Fault.TheVariants as fault
-use Rattle.luau_parser.specs.Parsed.{IsShallow, IsParsed, IsUnexpected, IsTooDeep}
+use Rattle.syntax_tree.specs.Parsed.{IsShallow, IsParsed, IsUnexpected, IsTooDeep}
 use Rattle.expression_parser.specs.Reading.{FindsBlock}
 use Rattle.luau_parser.specs.Statements.{ReadsScript}
 use Rattle.luau_parser.proofs.NumberedNest.{nest_numbered}

@@ -1,3 +1,3 @@
 pub mod Examples
 pub mod Statements
-pub mod Parsed
+pub mod Refusals

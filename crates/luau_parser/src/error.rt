@@ -1,6 +1,10 @@
 //! Why a script is refused.
 
+ghost use Rattle.std.specs.Prelude.{◌≡◌};
+ghost use Rattle.luau_parser.specs.Refusals.{refusal_of};
+
 use std::alloc::AllocError;
+use syntax_tree::{Cause, Refusal};
 
 /// Why tokens were not read. Each place is a byte offset.
 #[derive(Clone, Copy, PartialEq, Eq, Hash, Debug)]
@@ -13,6 +17,21 @@ pub enum ParseErr {
     AmbiguousCall { at: usize },
     /// There was no memory.
     OutOfMemory,
+}
+
+impl ParseErr {
+    /// Why and where the tokens are refused. There is no refusal where memory ran out.
+    pub fn refusal(self) -> Option<Refusal>
+        ensures { result ≡ refusal_of self }
+    {
+        let (cause, at) = match self {
+            ParseErr::Unexpected { at } => (Cause::Unexpected, at),
+            ParseErr::TooDeep { at } => (Cause::TooDeep, at),
+            ParseErr::AmbiguousCall { at } => (Cause::AmbiguousCall, at),
+            ParseErr::OutOfMemory => return None,
+        };
+        Some(Refusal { cause, at })
+    }
 }
 
 impl From<AllocError> for ParseErr {

@@ -3,8 +3,9 @@
 ghost use Rattle.std.specs.Prelude.{◌≡◌, ℕ, IfOk, IfErr, Ok, Err, unwrap_or};
 ghost use Rattle.syntax_tree.specs.Calls.{Ambiguous};
 ghost use Rattle.syntax_tree.specs.declared.tree.Tree.{Tree};
-ghost use Rattle.type_skip.specs.Refusals.{offset_at, end_of};
-ghost use Rattle.luau_parser.specs.Parsed.{IsShallow, IsParsed, IsRefusal, Answers};
+ghost use Rattle.syntax_tree.specs.Places.{offset_at, end_of};
+ghost use Rattle.syntax_tree.specs.Parsed.{IsShallow, IsParsed};
+ghost use Rattle.luau_parser.specs.Refusals.{IsRefusal, Answers};
 ghost use Rattle.luau_parser.specs.Statements.{ReadsScript};
 ghost use Rattle.luau_parser.specs.declared.error.ParseErr.TheVariants as refusal;
 
@@ -14,15 +15,12 @@ use expression_parser::{Block, Fault, Found, Wanted};
 use node_numbers::number;
 use sqlite_items::Items;
 use std::alloc::Global;
-use syntax_tree::{FuncBody, Token, Tree};
-
-// How many nodes may nest.
-const MOST_NESTED: usize = 200;
+use syntax_tree::{FuncBody, MOST_NESTED, Token, Tree};
 
 /// The tree of a script's tokens, with its nodes numbered. It needs no interner: the words that the grammar knows by their names have the
 /// same numbers in each.
 pub fn parse(alloc: Global, tokens: &[Token]) -> Result<Tree, ParseErr>
-    // The tree derives from the tokens, nests at most 200 deep, and no call is ambiguous.
+    // The tree derives from the tokens, does not nest too deep, and no call is ambiguous.
     ensures tree { IfOk result (IsParsed tokens.now) }
     // A refusal says what is wrong with the tokens, and where.
     ensures refusal { IfErr result (IsRefusal tokens.now) }

@@ -2,7 +2,7 @@ mod lexing;
 mod printing;
 
 use lexing::tokens;
-use luau_parser::{ParseErr, parse};
+use luau_parser::parse;
 use printing::Printer;
 use std::process::Abort;
 use std::test::Fail;
@@ -174,10 +174,10 @@ fn expect_refusal(
 ) -> Result<(), Fail> {
     match parse(rt.alloc(), tokens) {
         Ok(_) => return Err(Fail::from("accepted")),
-        Err(ParseErr::Unexpected { at }) => assert_eq!(*rt; (10, at), (cause, place)),
-        Err(ParseErr::TooDeep { at }) => assert_eq!(*rt; (11, at), (cause, place)),
-        Err(ParseErr::AmbiguousCall { at }) => assert_eq!(*rt; (12, at), (cause, place)),
-        Err(ParseErr::OutOfMemory) => return Err(Fail::from("out of memory")),
+        Err(error) => match error.refusal() {
+            Some(refusal) => assert_eq!(*rt; (refusal.cause.number(), refusal.at), (cause, place)),
+            None => return Err(Fail::from("out of memory")),
+        },
     }
     Ok(())
 }

@@ -8,7 +8,8 @@ use Rattle.syntax_tree.specs.Derivations.{IsChunk}
 use Rattle.syntax_tree.specs.Places.{kind_at}
 use Rattle.syntax_tree.specs.Types.{IsType}
 use Rattle.type_skip.specs.Reading.{SameBelow}
-use Rattle.type_skip.specs.Refusals.{most, BeginsAs, IsFirstWrong, EndsEarly}
+use Rattle.type_skip.specs.Refusals.{most, IsFirstWrong, EndsEarly}
+use Rattle.syntax_tree.specs.Places.{BeginsAs}
 use Rattle.type_skip.proofs.Ends.{type_ends}
 use Rattle.type_skip.proofs.Forward.{type_forward}
 use Rattle.type_skip.proofs.GoingOn.{kind_in_front, kind_behind, of_kinds, has_within}

@@ -9,7 +9,7 @@ use Rattle.syntax_tree.specs.Places.{kind_at}
 use Rattle.type_skip.specs.Brackets.{opens_bracket, brackets}
 use Rattle.type_skip.proofs.Forward.{type_forward}
 use Rattle.parse_steps.specs.Items.{Item, block}
-use Rattle.parse_steps.specs.Openings.{weight, openings}
+use Rattle.syntax_tree.specs.Openings.{weight, openings}
 use Rattle.parse_steps.specs.Steps.{most, Runs, here, stay, take, pass, IsDeep, deep_node, deep_type}
 use Rattle.parse_steps.specs.Turns.{Turn, stays, takes, turn}
 use Rattle.parse_steps.proofs.Kept.{keeps}

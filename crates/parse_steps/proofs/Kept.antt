@@ -21,7 +21,7 @@ use Rattle.parse_steps.specs.Items.{Item, PrefixUse, in_expression, first_target
 use Rattle.parse_steps.specs.Items as item
 use Rattle.parse_steps.specs.Turns.{Turn, stops, stays, takes, turn}
 use Rattle.parse_steps.specs.Turns as turns
-use Rattle.parse_steps.specs.Openings.{weight}
+use Rattle.syntax_tree.specs.Openings.{weight}
 use Rattle.parse_steps.proofs.WordTests.{has}
 use Rattle.parse_steps.proofs.Limits.{Holds, Fits, Keeps, none, same, deeper, le_left, holds_more, fits_more, depth_climb, holds_climb}
 

@@ -8,7 +8,7 @@ use Rattle.syntax_tree.specs.Derivations.{IsChunk, main_function}
 use Rattle.syntax_tree.specs.Nest.{nest_func}
 use Rattle.syntax_tree.specs.Places.{Has}
 use Rattle.parse_steps.specs.Items.{Item, block}
-use Rattle.parse_steps.specs.Openings.{openings}
+use Rattle.syntax_tree.specs.Openings.{openings}
 use Rattle.parse_steps.specs.Steps.{asks, Runs, IsDeep, most}
 
 -- nothing is asked of a place where arguments open

@@ -4,7 +4,6 @@ pub mod Classes
 pub mod Items
 pub mod Turns
 pub mod Steps
-pub mod Openings
 pub mod CallPlaces
 pub mod OtherNest
 pub mod Laws

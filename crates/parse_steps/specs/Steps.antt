@@ -6,6 +6,7 @@
 use Rattle.std.specs.Prelude.{◌≡◌, ◌≢◌, ℕ, ◌+◌, ◌<◌, ◌≤◌, Bool, true, false, List, [], ◌∷◌, None}
 use Rattle.syntax_tree.specs.declared.token.Token.{Token}
 use Rattle.syntax_tree.specs.Calls.{OpensLate}
+use Rattle.syntax_tree.specs.Limits.{most_nested}
 use Rattle.syntax_tree.specs.Places.{kind_at}
 use Rattle.syntax_tree.specs.Types.{IsType}
 use Rattle.type_skip.specs.Reading as types
@@ -32,7 +33,7 @@ pub data Runs (ts : List Token) (n b : ℕ) (Fine : ℕ → Type 0) : (i v : ℕ
 
 -- so many nodes may be around each other, and so many brackets of a type open at once
 abbrev pub most : ℕ
-most = 200
+most = most_nested
 
 -- no `(` on a later line than the token before it stands there
 abbrev pub InTime : List Token → ℕ → Type 0

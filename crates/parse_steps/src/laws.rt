@@ -22,7 +22,7 @@ pub fn runs_are_shallow()
     ensures { RunsAreShallow }
 {}
 
-/// Where a node or a bracket opens that is one too many, more than 200 opening tokens stand up to it.
+/// Where a node or a bracket opens that is one too many, more opening tokens than may nest stand up to it.
 pub fn depth_is_counted()
     ensures { DepthIsCounted }
 {}

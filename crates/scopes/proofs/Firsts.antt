@@ -3,7 +3,7 @@ use Rattle.std.proofs.Common.{◌≡◌, ◌<◌, ◌≤◌, ◌⊎◌, inl, inr
 use Rattle.std.proofs.lemmas.List.Elements.{All-append, All-weaker, Contains-append_left, Contains-append_right}
 use Rattle.std.proofs.lemmas.List.{take_all, take_more}
 use Rattle.syntax_tree.specs.declared.fault.ScopeFault.{ScopeFault}
-use Rattle.syntax_tree.specs.Faults.{IsFirst, NotAfter, number}
+use Rattle.syntax_tree.specs.Faults.{IsFirst, NotAfter, number_of}
 use Rattle.scopes.specs.Refused.{IsEarlier}
 
 one : {X : Type 0} (P : X → Type 0) (x : X) → P x → All P (x ∷ [])
@@ -28,7 +28,7 @@ first_more fs f g r (inl p) h =
 first_more fs f g r (inr p) h =
     subst (λ x. IsFirst (fs ++ g ∷ []) x) (sym p.0) (record {
       broken = Contains-append_right fs (g ∷ []) g (0, omega arith, refl);
-      first = All-append (λ x. NotAfter g x) fs (g ∷ []) (All-weaker (λ x. NotAfter f x) (λ x. NotAfter g x) (λ x q. later g.at f.at x.at (number g.rule) (number f.rule) (number x.rule) p.1 q) fs h.first) (one (λ x. NotAfter g x) g (inr (refl, omega arith)));
+      first = All-append (λ x. NotAfter g x) fs (g ∷ []) (All-weaker (λ x. NotAfter f x) (λ x. NotAfter g x) (λ x q. later g.at f.at x.at (number_of g.rule) (number_of f.rule) (number_of x.rule) p.1 q) fs h.first) (one (λ x. NotAfter g x) g (inr (refl, omega arith)));
     })
 
 pub first_turn : (faults : List ScopeFault) (i : ℕ) (d r : ScopeFault) (first : Option ScopeFault) → i < length faults → MatchOption first (r ≡ get_or faults i d) (λ f. IsEarlier f (get_or faults i d) r) → MatchOption first (take i faults ≡ []) (IsFirst (take i faults)) → IsFirst (take (i + 1) faults) r

@@ -6,6 +6,7 @@ use Rattle.syntax_tree.specs.declared.notes.Note.{Note}
 use Rattle.syntax_tree.specs.declared.fault.ScopeFault.{ScopeFault}
 use Rattle.syntax_tree.specs.declared.fault.ScopeRule.TheVariants as rule
 use Rattle.syntax_tree.specs.declared.notes.Leap.{Leap}
+use Rattle.syntax_tree.specs.Limits.{most_variables}
 use Rattle.syntax_tree.specs.Captures.{at_first, too_many}
 use Rattle.syntax_tree.specs.Faults.{fault}
 use Rattle.syntax_tree.specs.Leaps.{is_skipped, skips}
@@ -18,6 +19,6 @@ skips_turn below cond leaps i d now new b r lt any e p =
     ∙ append_assoc now (if list_any (is_skipped below leap) cond then fault rule.UntilSkipsLocal leap.at else []) (skips below cond (drop (i + 1) leaps))
     ∙ ap (λ l. now ++ skips below cond l) (sym (at_drop_more (λ l. l) leaps i d lt)) ∙ p
 
--- a function that captures at most 200 variables
-pub few : (names : List Note) → length names ≤ 200 → too_many names ≡ []
-few names le = ap at_first (drop_all 200 names le)
+-- a function that captures not too many variables
+pub few : (names : List Note) → length names ≤ most_variables → too_many names ≡ []
+few names le = ap at_first (drop_all most_variables names le)

@@ -1,13 +1,15 @@
 -- What the answers of `resolve` say.
-use Rattle.std.specs.Prelude.{◌≡◌, ◌⊎◌, [], Option, Some, None}
+use Rattle.std.specs.Prelude.{◌≡◌, ◌⊎◌, [], Option, Some, None, option_map}
 use Rattle.std.specs.declared.result.Result.{Result}
 use Rattle.std.specs.declared.result.Result.TheVariants.{Ok, Err}
 use Rattle.syntax_tree.specs.declared.bindings.Bindings.{Bindings}
 use Rattle.syntax_tree.specs.declared.fault.ScopeFault.{ScopeFault}
 use Rattle.syntax_tree.specs.declared.fault.ScopeRule.TheVariants as rule
+use Rattle.syntax_tree.specs.declared.refusal.Refusal.{Refusal}
 use Rattle.syntax_tree.specs.declared.tree.Tree.{Tree}
 use Rattle.syntax_tree.specs.Bound.{bound, faults, IsScopeFault}
-use Rattle.syntax_tree.specs.Faults.{NotAfter}
+use Rattle.syntax_tree.specs.Causes.{refused}
+use Rattle.syntax_tree.specs.Faults.{NotAfter, cause_of}
 use Rattle.scopes.specs.declared.error.ScopeErr.{ScopeErr}
 use Rattle.scopes.specs.declared.error.ScopeErr.TheVariants as refusal
 
@@ -24,6 +26,14 @@ fault_of refusal.OutOfMemory = None
 
 abbrev pub IsRefusal : ScopeFault → ScopeErr → Type 0
 IsRefusal fault e = fault_of e ≡ Some fault
+
+-- why and where a tree is refused that breaks a rule
+abbrev pub refusal_for : ScopeFault → Refusal
+refusal_for fault = refused (cause_of fault.rule) fault.at
+
+-- the same of a refusal; want of memory says nothing of the tree
+abbrev pub refusal_of : ScopeErr → Option Refusal
+refusal_of e = option_map refusal_for (fault_of e)
 
 -- want of memory, or the first broken rule
 abbrev pub Refuses : Tree → Option ScopeFault → Type 0

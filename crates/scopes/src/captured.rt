@@ -12,7 +12,7 @@ use resource::OutOfMemory;
 use sqlite_items::Items;
 use std::alloc::Global;
 use std::collections::HashSet;
-use syntax_tree::{Bound, Leap, Note, ScopeFault, ScopeRule};
+use syntax_tree::{Bound, Leap, MOST_VARIABLES, Note, ScopeFault, ScopeRule};
 
 /// The local that a name is bound to.
 pub fn local_of(bound: Option<Bound>) -> Option<usize>
@@ -54,11 +54,11 @@ pub fn captures(alloc: Global, notes: &[Note], first: usize) -> Result<Items<Not
     Ok(names)
 }
 
-/// Notes the name by which a function gets its 201st variable.
+/// Notes the name by which a function gets one variable too many.
 pub fn too_many(faults: &mut Items<ScopeFault>, names: &[Note]) -> Result<(), OutOfMemory>
     ensures { OnOk result (faults.new ≡ faults.old ++ too_many names.now) }
 {
-    if let Some(note) = names.get(200) {
+    if let Some(note) = names.get(MOST_VARIABLES) {
         faults.push(ScopeFault {
             at: note.at,
             rule: ScopeRule::TooManyUpvalues,

@@ -1,17 +1,16 @@
 //! Why a tree is refused.
 
 ghost use Rattle.std.specs.Prelude.{◌≡◌, MatchOption, []};
-ghost use Rattle.syntax_tree.specs.Faults.{IsFirst, number};
-ghost use Rattle.scopes.specs.Refused.{IsRefusal, IsEarlier};
+ghost use Rattle.syntax_tree.specs.Faults.{IsFirst};
+ghost use Rattle.scopes.specs.Refused.{IsRefusal, IsEarlier, refusal_of};
 
 use resource::OutOfMemory;
 use std::error::Error;
 use std::fmt;
-use syntax_tree::{ScopeFault, ScopeRule};
+use syntax_tree::{Cause, Refusal, ScopeFault, ScopeRule};
 
-/// Why a tree is refused. Each rule that it breaks has a number from 20 to 26, in this order, and a place: the byte
-/// offset of the statement, the `continue`, the `...`, the statement or function that declares the local, the name,
-/// or the function.
+/// Why a tree is refused. Each rule that it breaks has a place: the byte offset of the statement, the `continue`, the
+/// `...`, the statement or function that declares the local, the name, or the function.
 #[derive(Clone, Copy, PartialEq, Eq, Hash, Debug)]
 pub enum ScopeErr {
     /// A `break` or `continue` that stands in no loop of its function.
@@ -20,13 +19,13 @@ pub enum ScopeErr {
     UntilSkipsLocal { at: usize },
     /// A `...` in a function that does not take any number of arguments.
     VarargOutside { at: usize },
-    /// More than 200 locals are live in a function.
+    /// Too many locals are live in a function.
     TooManyLocals { at: usize },
-    /// A function captures more than 200 variables.
+    /// A function captures too many variables.
     TooManyUpvalues { at: usize },
-    /// A function needs more than 250 registers.
+    /// A function needs too many registers.
     TooWide { at: usize },
-    /// The bulk of a function is above 30,000.
+    /// The bulk of a function is too great.
     TooLong { at: usize },
     /// There was no memory left.
     OutOfMemory,
@@ -48,19 +47,30 @@ impl ScopeErr {
             ScopeRule::TooLong => ScopeErr::TooLong { at },
         }
     }
+
+    /// Why and where the tree is refused. There is no refusal where memory ran out.
+    pub fn refusal(self) -> Option<Refusal>
+        ensures { result ≡ refusal_of self }
+    {
+        let (cause, at) = match self {
+            ScopeErr::LoopWordOutside { at } => (Cause::LoopWordOutside, at),
+            ScopeErr::UntilSkipsLocal { at } => (Cause::UntilSkipsLocal, at),
+            ScopeErr::VarargOutside { at } => (Cause::VarargOutside, at),
+            ScopeErr::TooManyLocals { at } => (Cause::TooManyLocals, at),
+            ScopeErr::TooManyUpvalues { at } => (Cause::TooManyUpvalues, at),
+            ScopeErr::TooWide { at } => (Cause::TooWide, at),
+            ScopeErr::TooLong { at } => (Cause::TooLong, at),
+            ScopeErr::OutOfMemory => return None,
+        };
+        Some(Refusal { cause, at })
+    }
 }
 
 impl fmt::Display for ScopeErr {
     fn fmt<W: fmt::Write>(&self, f: &mut fmt::Formatter<W>) -> fmt::Result {
-        match self {
-            ScopeErr::LoopWordOutside { at } => write!(f, "LoopWordOutside 20 at {at}"),
-            ScopeErr::UntilSkipsLocal { at } => write!(f, "UntilSkipsLocal 21 at {at}"),
-            ScopeErr::VarargOutside { at } => write!(f, "VarargOutside 22 at {at}"),
-            ScopeErr::TooManyLocals { at } => write!(f, "TooManyLocals 23 at {at}"),
-            ScopeErr::TooManyUpvalues { at } => write!(f, "TooManyUpvalues 24 at {at}"),
-            ScopeErr::TooWide { at } => write!(f, "TooWide 25 at {at}"),
-            ScopeErr::TooLong { at } => write!(f, "TooLong 26 at {at}"),
-            ScopeErr::OutOfMemory => write!(f, "out of memory"),
+        match self.refusal() {
+            Some(refusal) => write!(f, "{refusal}"),
+            None => write!(f, "out of memory"),
         }
     }
 }
@@ -78,21 +88,6 @@ impl From<OutOfMemory> for ScopeErr {
     }
 }
 
-/// The number of a rule.
-fn number_of(rule: ScopeRule) -> u8
-    ensures { result ≡ number rule }
-{
-    match rule {
-        ScopeRule::LoopWordOutside => 20,
-        ScopeRule::UntilSkipsLocal => 21,
-        ScopeRule::VarargOutside => 22,
-        ScopeRule::TooManyLocals => 23,
-        ScopeRule::TooManyUpvalues => 24,
-        ScopeRule::TooWide => 25,
-        ScopeRule::TooLong => 26,
-    }
-}
-
 /// The fault that comes first of two.
 fn earlier(a: ScopeFault, b: ScopeFault) -> ScopeFault
     ensures { IsEarlier a b result }
@@ -103,7 +98,7 @@ fn earlier(a: ScopeFault, b: ScopeFault) -> ScopeFault
     if b.at < a.at {
         return b;
     }
-    if number_of(a.rule) <= number_of(b.rule) {
+    if a.rule.cause().number() <= b.rule.cause().number() {
         a
     } else {
         b

@@ -6,8 +6,8 @@ ghost use Rattle.syntax_tree.specs.Rules as spec;
 use resource::OutOfMemory;
 use sqlite_items::{Boxed, Items};
 use syntax_tree::{
-    Arm, Expr, ExprArm, ExprKind, Field, FieldKind, FuncBody, Place, ScopeFault, ScopeRule, Stat,
-    StatKind,
+    Arm, Expr, ExprArm, ExprKind, Field, FieldKind, FuncBody, MOST_VARIABLES, Place, ScopeFault,
+    ScopeRule, Stat, StatKind,
 };
 
 /// The sum of two counts of locals. There is no memory for as many as there are numbers.
@@ -20,7 +20,7 @@ fn sum(a: usize, b: usize) -> Result<usize, OutOfMemory>
     }
 }
 
-/// Notes what declares the 201st live local.
+/// Notes what declares one live local too many.
 fn too_many(
     faults: &mut Items<ScopeFault>,
     at: usize,
@@ -29,7 +29,7 @@ fn too_many(
 ) -> Result<(), OutOfMemory>
     ensures { OnOk result (faults.new ≡ faults.old ++ spec.too_many at live more) }
 {
-    if live <= 200 && 200 < sum(live, more)? {
+    if live <= MOST_VARIABLES && MOST_VARIABLES < sum(live, more)? {
         faults.push(ScopeFault {
             at,
             rule: ScopeRule::TooManyLocals,

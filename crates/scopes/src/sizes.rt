@@ -6,8 +6,8 @@ ghost use Rattle.syntax_tree.specs.Sizes as spec;
 use resource::OutOfMemory;
 use sqlite_items::{Boxed, Items};
 use syntax_tree::{
-    Arm, Bindings, Expr, ExprArm, ExprKind, Field, FieldKind, FuncBody, ScopeFault, ScopeRule,
-    Stat, StatKind, bulk, need,
+    Arm, Bindings, Expr, ExprArm, ExprKind, Field, FieldKind, FuncBody, MOST_BULK, MOST_REGISTERS,
+    ScopeFault, ScopeRule, Stat, StatKind, bulk, need,
 };
 
 /// Notes what is wrong with the size of a function, those in it aside.
@@ -18,13 +18,13 @@ fn own_size(
 ) -> Result<(), OutOfMemory>
     ensures { OnOk result (faults.new ≡ faults.old ++ spec.size_faults bindings.now func.now) }
 {
-    if need(func) > 250 {
+    if need(func) > MOST_REGISTERS {
         faults.push(ScopeFault {
             at: func.at,
             rule: ScopeRule::TooWide,
         })?;
     }
-    if bulk(func, bindings) > 30000 {
+    if bulk(func, bindings) > MOST_BULK {
         faults.push(ScopeFault {
             at: func.at,
             rule: ScopeRule::TooLong,

@@ -32,14 +32,10 @@ fn refusal(alloc: Global, text: &[u8]) -> Result<(u8, usize), Fail> {
     let tree = tree(alloc, text)?;
     Ok(match resolve(alloc, &tree) {
         Ok(_) => (0, 0),
-        Err(ScopeErr::LoopWordOutside { at }) => (20, at),
-        Err(ScopeErr::UntilSkipsLocal { at }) => (21, at),
-        Err(ScopeErr::VarargOutside { at }) => (22, at),
-        Err(ScopeErr::TooManyLocals { at }) => (23, at),
-        Err(ScopeErr::TooManyUpvalues { at }) => (24, at),
-        Err(ScopeErr::TooWide { at }) => (25, at),
-        Err(ScopeErr::TooLong { at }) => (26, at),
-        Err(ScopeErr::OutOfMemory) => return Err(Fail::from("out of memory")),
+        Err(error) => match error.refusal() {
+            Some(refusal) => (refusal.cause.number(), refusal.at),
+            None => return Err(Fail::from("out of memory")),
+        },
     })
 }
 

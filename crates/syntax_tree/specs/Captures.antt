@@ -8,6 +8,7 @@ use Rattle.syntax_tree.specs.declared.notes.Note.{Note}
 use Rattle.syntax_tree.specs.declared.fault.ScopeFault.{ScopeFault}
 use Rattle.syntax_tree.specs.declared.fault.ScopeRule.TheVariants as rule
 use Rattle.syntax_tree.specs.Faults.{fault}
+use Rattle.syntax_tree.specs.Limits.{most_variables}
 use Rattle.syntax_tree.specs.Scope.{local_of}
 
 abbrev pub is_some : ℕ → Option ℕ → Bool
@@ -38,6 +39,6 @@ abbrev pub at_first : List Note → List ScopeFault
 at_first [] = []
 at_first (note ∷ notes) = fault rule.TooManyUpvalues note.at
 
--- a function captures at most 200 variables: the fault is at the name by which it gets the 201st
+-- the variables that a function captures: the fault is at the name by which it gets one too many
 abbrev pub too_many : List Note → List ScopeFault
-too_many names = at_first (drop 200 names)
+too_many names = at_first (drop most_variables names)

@@ -3,19 +3,25 @@ use Rattle.std.specs.Prelude.{◌≡◌, ◌<◌, ◌≤◌, ◌⊎◌, ℕ, Lis
 use Rattle.syntax_tree.specs.declared.fault.ScopeRule.TheVariants as rule
 use Rattle.syntax_tree.specs.declared.fault.ScopeRule.{ScopeRule}
 use Rattle.syntax_tree.specs.declared.fault.ScopeFault.{ScopeFault}
+use Rattle.syntax_tree.specs.declared.refusal.Cause.{Cause}
+use Rattle.syntax_tree.specs.declared.refusal.Cause.TheVariants as cause
+use Rattle.syntax_tree.specs.Causes.{number}
 
-abbrev pub number : ScopeRule → ℕ
-number rule.LoopWordOutside = 20
-number rule.UntilSkipsLocal = 21
-number rule.VarargOutside = 22
-number rule.TooManyLocals = 23
-number rule.TooManyUpvalues = 24
-number rule.TooWide = 25
-number rule.TooLong = 26
+abbrev pub cause_of : ScopeRule → Cause
+cause_of rule.LoopWordOutside = cause.LoopWordOutside
+cause_of rule.UntilSkipsLocal = cause.UntilSkipsLocal
+cause_of rule.VarargOutside = cause.VarargOutside
+cause_of rule.TooManyLocals = cause.TooManyLocals
+cause_of rule.TooManyUpvalues = cause.TooManyUpvalues
+cause_of rule.TooWide = cause.TooWide
+cause_of rule.TooLong = cause.TooLong
+
+abbrev pub number_of : ScopeRule → ℕ
+number_of r = number (cause_of r)
 
 -- `a` is at an earlier place than `b`, or at the same place with a number that is not greater
 abbrev pub NotAfter : ScopeFault → ScopeFault → Type 0
-NotAfter a b = (a.at < b.at) ⊎ ((a.at ≡ b.at) × (number a.rule ≤ number b.rule))
+NotAfter a b = (a.at < b.at) ⊎ ((a.at ≡ b.at) × (number_of a.rule ≤ number_of b.rule))
 
 pub record IsFirst (faults : List ScopeFault) (f : ScopeFault) : Type 0 where
   pub broken : Contains faults f

@@ -1,5 +1,5 @@
 -- What stands at the places of a token list. Places count from 0, and behind the last token nothing stands.
-use Rattle.std.specs.Prelude.{◌≡◌, ◌≢◌, ℕ, ◌+◌, Bool, true, false, nat_eq, List, Option, Some, option_map, slice_get}
+use Rattle.std.specs.Prelude.{◌≡◌, ◌≢◌, ℕ, ◌+◌, ◌-◌, Bool, true, false, nat_eq, List, length, take, Option, Some, option_map, unwrap_or, slice_get}
 use Rattle.byte_text.specs.declared.StrId.{StrId}
 use Rattle.syntax_tree.specs.declared.token.Token.{Token}
 use Rattle.syntax_tree.specs.declared.token.TokenKind.{TokenKind}
@@ -32,3 +32,15 @@ is_named id _ = false
 pub data Optional (ts : List Token) (kind : TokenKind) : ℕ → ℕ → Type 0 where
   taken : (i : ℕ) → Has ts i kind → Optional ts kind i (i + 1)
   absent : (i : ℕ) → Lacks ts i kind → Optional ts kind i i
+
+-- the offset of a token
+abbrev pub offset_at : List Token → ℕ → Option ℕ
+offset_at ts k = option_map (λ t. t.at) (slice_get ts k)
+
+-- where the last token ends, and 0 without one
+abbrev pub end_of : List Token → ℕ
+end_of ts = unwrap_or (option_map (λ t. t.end) (slice_get ts (length ts - 1))) 0
+
+-- the second list begins with the first k tokens of the first
+abbrev pub BeginsAs : (ts : List Token) → (k : ℕ) → (us : List Token) → Type 0
+BeginsAs ts k us = take k us ≡ take k ts

@@ -13,6 +13,7 @@ use Rattle.syntax_tree.specs.declared.tree.ExprKind.TheOpen as level
 use Rattle.syntax_tree.specs.declared.tree.ExprKind.TheOpen.{ExprKind-F, FieldKind-F, StatKind-F, Arm-F, Expr-F, ExprArm-F, Field-F, FuncBody-F, Stat-F}
 use Rattle.syntax_tree.specs.Fold.{Steps, at_expr, at_stat, at_func, at_arm, at_expr_arm, at_field}
 use Rattle.syntax_tree.specs.Faults.{fault}
+use Rattle.syntax_tree.specs.Limits.{most_variables}
 
 -- the faults of a part of a function, by the place where it stands
 abbrev pub Part : Type 0
@@ -54,9 +55,9 @@ in_loop_of more p = record p { in_loop = true; live = p.live + more }
 abbrev pub in_loop : Part → Part
 in_loop f p = f (in_loop_of 0 p)
 
--- what declares the 201st live local, `live` being live before it and `more` declared by it
+-- what declares one live local too many, `live` being live before it and `more` declared by it
 abbrev pub too_many : ℕ → ℕ → ℕ → List ScopeFault
-too_many at live more = if nat_le live 200 && nat_lt 200 (live + more) then fault rule.TooManyLocals at else []
+too_many at live more = if nat_le live most_variables && nat_lt most_variables (live + more) then fault rule.TooManyLocals at else []
 
 -- `...` stands in a function that takes any number of arguments
 abbrev pub vararg : ℕ → Part

@@ -1,5 +1,4 @@
--- The rules on the size of a function: it needs at most 250 registers, and its bulk is at most 30,000. The fault is
--- at the function.
+-- The rules on the size of a function: the registers that it needs, and its bulk. The fault is at the function.
 use Rattle.std.specs.Prelude.{ℕ, nat_lt, if◌then◌else◌, map, List, [], ◌∷◌, ◌++◌, Option, Some, None}
 use Rattle.syntax_tree.specs.declared.bindings.Bindings.{Bindings}
 use Rattle.syntax_tree.specs.declared.fault.ScopeFault.{ScopeFault}
@@ -18,6 +17,7 @@ use Rattle.syntax_tree.specs.declared.tree.ExprKind.TheOpen as level
 use Rattle.syntax_tree.specs.declared.tree.ExprKind.TheOpen.{ExprKind-F, FieldKind-F, StatKind-F, Arm-F, Expr-F, ExprArm-F, Field-F, FuncBody-F, Stat-F}
 use Rattle.syntax_tree.specs.Bulk.{bulk}
 use Rattle.syntax_tree.specs.Faults.{fault}
+use Rattle.syntax_tree.specs.Limits.{most_registers, most_bulk}
 use Rattle.syntax_tree.specs.Need.{need}
 
 -- a part of the tree, and the faults of the functions in it
@@ -40,7 +40,7 @@ module _ (bindings : Bindings) where
   -- the faults of one function
   abbrev pub size_faults : FuncBody → List ScopeFault
   size_faults f =
-      (if nat_lt 250 (need f) then fault rule.TooWide (out-FuncBody f).at else []) ++ (if nat_lt 30000 (bulk bindings f) then fault rule.TooLong (out-FuncBody f).at else [])
+      (if nat_lt most_registers (need f) then fault rule.TooWide (out-FuncBody f).at else []) ++ (if nat_lt most_bulk (bulk bindings f) then fault rule.TooLong (out-FuncBody f).at else [])
 
   -- the faults of a function, and of those in it
   abbrev pub made : With FuncBody → List ScopeFault

@@ -1,5 +1,10 @@
 //! The rules on names, loops and sizes that a tree may break.
 
+ghost use Rattle.std.specs.Prelude.{◌≡◌};
+ghost use Rattle.syntax_tree.specs.Faults.{cause_of};
+
+use crate::refusal::Cause;
+
 /// A rule that a tree may break.
 #[derive(Clone, Copy, PartialEq, Eq, Hash, Debug)]
 pub enum ScopeRule {
@@ -9,14 +14,31 @@ pub enum ScopeRule {
     UntilSkipsLocal,
     /// `...` stands in a function that takes any number of arguments.
     VarargOutside,
-    /// At most 200 locals of a function are live.
+    /// Not too many locals of a function are live.
     TooManyLocals,
-    /// A function captures at most 200 variables.
+    /// A function does not capture too many variables.
     TooManyUpvalues,
-    /// A function needs at most 250 registers.
+    /// A function does not need too many registers.
     TooWide,
-    /// The bulk of a function is at most 30,000.
+    /// The bulk of a function is not too great.
     TooLong,
+}
+
+impl ScopeRule {
+    /// Why a script is refused that breaks the rule.
+    pub fn cause(self) -> Cause
+        ensures { result ≡ cause_of self }
+    {
+        match self {
+            ScopeRule::LoopWordOutside => Cause::LoopWordOutside,
+            ScopeRule::UntilSkipsLocal => Cause::UntilSkipsLocal,
+            ScopeRule::VarargOutside => Cause::VarargOutside,
+            ScopeRule::TooManyLocals => Cause::TooManyLocals,
+            ScopeRule::TooManyUpvalues => Cause::TooManyUpvalues,
+            ScopeRule::TooWide => Cause::TooWide,
+            ScopeRule::TooLong => Cause::TooLong,
+        }
+    }
 }
 
 /// A broken rule and where it is broken: the byte offset of the statement, word, name or function.

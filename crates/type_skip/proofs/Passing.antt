@@ -12,7 +12,8 @@ use Rattle.type_skip.specs.declared.fault.Fault.TheVariants as fault
 use Rattle.type_skip.specs.declared.skipping.TypeErr.{TypeErr}
 use Rattle.type_skip.specs.declared.skipping.TypeErr.TheVariants.{Unexpected, TooDeep}
 use Rattle.type_skip.specs.Reading.{SameBelow, Completes, Reads}
-use Rattle.type_skip.specs.Refusals.{most, offset_at, end_of, BeginsAs, OpensTooMany, IsUnexpected, IsTooDeep, Passes}
+use Rattle.type_skip.specs.Refusals.{most, OpensTooMany, IsUnexpected, IsTooDeep, Passes}
+use Rattle.syntax_tree.specs.Places.{offset_at, end_of, BeginsAs}
 use Rattle.type_skip.proofs.OneType.{one_type}
 use Rattle.type_skip.proofs.Leading.{same_self}
 use Rattle.type_skip.proofs.GoingOn.{of_kinds, going_on}

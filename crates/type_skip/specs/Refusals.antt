@@ -1,7 +1,9 @@
 -- What passing a type answers: where it ends, the first token with which there is no type, or the bracket that is one too
 -- many.
-use Rattle.std.specs.Prelude.{◌≡◌, ℕ, ◌+◌, ◌-◌, ◌≤◌, ◌<◌, List, ◌++◌, length, take, Option, Some, Result, Ok, Err, option_map, unwrap_or, slice_get, ◌⊎◌}
+use Rattle.std.specs.Prelude.{◌≡◌, ℕ, ◌+◌, ◌≤◌, ◌<◌, List, ◌++◌, length, Some, Result, Ok, Err, ◌⊎◌}
 use Rattle.syntax_tree.specs.declared.token.Token.{Token}
+use Rattle.syntax_tree.specs.Limits.{most_nested}
+use Rattle.syntax_tree.specs.Places.{offset_at, end_of, BeginsAs}
 use Rattle.syntax_tree.specs.Types.{IsType}
 use Rattle.type_skip.specs.Brackets.{brackets}
 use Rattle.type_skip.specs.declared.skipping.TypeErr.{TypeErr}
@@ -9,19 +11,7 @@ use Rattle.type_skip.specs.declared.skipping.TypeErr.TheVariants.{Unexpected, To
 
 -- so many brackets of a type may be open at once
 abbrev pub most : ℕ
-most = 200
-
--- the offset of a token
-abbrev pub offset_at : List Token → ℕ → Option ℕ
-offset_at ts k = option_map (λ t. t.at) (slice_get ts k)
-
--- where the last token ends, and 0 without one
-abbrev pub end_of : List Token → ℕ
-end_of ts = unwrap_or (option_map (λ t. t.end) (slice_get ts (length ts - 1))) 0
-
--- the second list begins with the first k tokens of the first
-abbrev pub BeginsAs : (ts : List Token) → (k : ℕ) → (us : List Token) → Type 0
-BeginsAs ts k us = take k us ≡ take k ts
+most = most_nested
 
 -- No tokens that begin with those up to and including token k have a type at place `from`, and it is the first such
 -- token: those before it go on to a type.

@@ -3,24 +3,22 @@
 ghost use Rattle.std.specs.Prelude.{◌≡◌, ℕ, List, Ok, Err, unwrap_or};
 ghost use Rattle.syntax_tree.specs.declared.token.Token.{Token};
 ghost use Rattle.syntax_tree.specs.Types.{IsType};
-ghost use Rattle.type_skip.specs.Refusals.{most, offset_at, end_of, IsTooDeep, Passes};
+ghost use Rattle.type_skip.specs.Refusals.{most, IsTooDeep, Passes};
+ghost use Rattle.syntax_tree.specs.Places.{offset_at, end_of};
 ghost use Rattle.type_skip.specs.declared.skipping.TypeErr.TheVariants.{TooDeep};
 
 use crate::fault::Fault;
 use crate::parts::type_end;
-use syntax_tree::Token;
+use syntax_tree::{MOST_NESTED, Token};
 
 /// Why no type was passed. Each has the offset of the token's first byte.
 #[derive(Clone, Copy, PartialEq, Eq, Hash, Debug)]
 pub enum TypeErr {
     /// No type goes on with this token. Where the tokens end too early, this is the end of the last one, and 0 without one.
     Unexpected { at: usize },
-    /// With this bracket more than 200 brackets of the type are open.
+    /// With this bracket more than [`MOST_NESTED`] brackets of the type are open.
     TooDeep { at: usize },
 }
-
-// How many brackets of a type may be open.
-const MOST_OPEN: usize = 200;
 
 /// The index behind the type that begins at an index. It takes no memory.
 pub fn skip_type(tokens: &[Token], at: usize) -> Result<usize, TypeErr>
@@ -30,7 +28,7 @@ pub fn skip_type(tokens: &[Token], at: usize) -> Result<usize, TypeErr>
     // A bracket too many is refused.
     ensures deep { (offset : ℕ) → IsTooDeep tokens.now at offset → result ≡ Err (TooDeep offset) }
 {
-    match type_end(tokens, at, MOST_OPEN) {
+    match type_end(tokens, at, MOST_NESTED) {
         Ok(end) => Ok(end),
         Err(Fault::Unexpected(place)) => Err(TypeErr::Unexpected {
             at: offset_at(tokens, place),

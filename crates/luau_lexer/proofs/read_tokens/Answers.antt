@@ -1,5 +1,5 @@
 use Rattle.std.proofs.Common.{subst}
-use Rattle.luau_lexer.specs.Spellings.{form_of}
+use Rattle.syntax_tree.specs.Spellings.{form_of}
 use Rattle.luau_lexer.specs.Finding.{Finds}
 use Rattle.luau_lexer.proofs.Courses.{read_gap, read_token, read_all}
 use Rattle.luau_lexer.proofs.Texts.{keeps_more}

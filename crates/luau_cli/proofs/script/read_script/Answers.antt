@@ -1,28 +1,28 @@
 use Rattle.std.proofs.Common.{◌∙◌, sym, subst}
 use Rattle.luau_lexer.proofs.OneTokenList.{lexed}
-use Rattle.luau_parser.specs.Parsed.{IsParsed, IsRefusal}
-use Rattle.luau_cli.specs.Refusals.{unbuilt}
+use Rattle.syntax_tree.specs.Parsed.{IsParsed}
+use Rattle.luau_parser.specs.Refusals.{IsRefusal}
 use Rattle.luau_cli.proofs.Readings.{refused_reading, without_tokens, without_tree, with_fault}
 use Rattle.luau_cli.proofs.script.read_script.Goals as goal
 
 pub returns-in-Err-clause-reading : goal.returns-in-Err-clause-reading
 returns-in-Err-clause-reading c =
-    refused_reading _ _ _ c.refused.result c.refused.ensures c.lexical.ensures (λ d e. without_tokens _ c.in-Err.error d c.in-Err.ensures.fault e)
+    refused_reading _ _ _ c.refused.result c.refused.ensures c.refusal.ensures (without_tokens _ _ c.in-Err.ensures.fault)
 
 pub returns-in-Err-parse-clause-reading : goal.returns-in-Err-parse-clause-reading
 returns-in-Err-parse-clause-reading c =
     let spelled = lexed _ _ _ c.in-Ok.tokens.items c.new-names.ensures c.in-Ok.ensures.tokens in
     let refusal = subst (λ ts. IsRefusal ts c.in-Err-parse.error) c.as_slice.ensures.value c.in-Err-parse.ensures.refusal in
-    refused_reading _ _ _ c.refused-in-Err-parse.result c.refused-in-Err-parse.ensures c.syntactic.ensures (λ d e. without_tree _ _ c.in-Err-parse.error d spelled refusal e)
+    refused_reading _ _ _ c.refused-in-Err-parse.result c.refused-in-Err-parse.ensures c.refusal-in-Err-parse.ensures (without_tree _ _ _ spelled refusal)
 
 pub returns-in-Err-resolve-clause-reading : goal.returns-in-Err-resolve-clause-reading
 returns-in-Err-resolve-clause-reading c =
     let spelled = lexed _ _ _ c.in-Ok.tokens.items c.new-names.ensures c.in-Ok.ensures.tokens in
     let parsed = subst (λ ts. IsParsed ts c.in-Ok-parse.tree) c.as_slice.ensures.value c.in-Ok-parse.ensures.tree in
-    refused_reading _ _ _ c.refused-in-Err-resolve.result c.refused-in-Err-resolve.ensures c.broken_rule.ensures (λ d e. with_fault _ _ c.in-Ok-parse.tree c.in-Err-resolve.error d spelled parsed c.in-Err-resolve.ensures e)
+    refused_reading _ _ _ c.refused-in-Err-resolve.result c.refused-in-Err-resolve.ensures c.refusal-in-Err-resolve.ensures (with_fault _ _ c.in-Ok-parse.tree _ spelled parsed c.in-Err-resolve.ensures)
 
 pub returns-in-Some-clause-reading : goal.returns-in-Some-clause-reading
 returns-in-Some-clause-reading c =
     let spelled = lexed _ _ _ c.in-Ok.tokens.items c.new-names.ensures c.in-Ok.ensures.tokens in
     let parsed = subst (λ ts. IsParsed ts c.in-Ok-parse.tree) c.as_slice.ensures.value c.in-Ok-parse.ensures.tree in
-    unbuilt c.in-Ok-parse.tree c.in-Some.at (record { tokens = _; spelled = spelled; parsed = parsed; unbroken = c.in-Ok-resolve.ensures.0 }) (sym c.in_ok-at.ensures.place ∙ c.in-Some.is)
+    record { tree = c.in-Ok-parse.tree; accepted = record { tokens = _; spelled = spelled; parsed = parsed; unbroken = c.in-Ok-resolve.ensures.0 }; first = sym c.in_ok-at.ensures.place ∙ c.in-Some.is }

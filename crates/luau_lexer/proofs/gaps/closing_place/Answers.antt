@@ -1,5 +1,5 @@
 use Rattle.std.proofs.Common.{ap, sym, ◌∙◌}
-use Rattle.luau_lexer.specs.Gaps.{bracket_level, is_level}
+use Rattle.syntax_tree.specs.Gaps.{bracket_level, is_level}
 use Rattle.luau_lexer.proofs.ClosingPlaces.{closes_later}
 use Rattle.luau_lexer.proofs.gaps.closing_place.Goals as goal
 

@@ -1,5 +1,5 @@
 use Rattle.std.proofs.Common.{◌≡◌, drop}
-use Rattle.luau_lexer.specs.Gaps.{closing_place}
+use Rattle.syntax_tree.specs.Gaps.{closing_place}
 use Rattle.luau_lexer.proofs.ClosingPlaces.{shifted}
 use Rattle.luau_lexer.proofs.gaps.closing_place.Given as goal
 

@@ -1,6 +1,6 @@
 use Rattle.std.proofs.Common.{map}
 use Rattle.std.proofs.lemmas.Option.{slice_get-get_or}
-use Rattle.luau_lexer.specs.Plain.{symbols}
+use Rattle.syntax_tree.specs.Plain.{symbols}
 use Rattle.luau_lexer.proofs.Tables.{Entry}
 use Rattle.luau_lexer.proofs.plain.symbol_kind.Goals as goal
 

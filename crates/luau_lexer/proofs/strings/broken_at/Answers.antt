@@ -1,6 +1,6 @@
 use Rattle.std.proofs.Common.{◌≡◌, ap, sym, ◌∙◌, ◌≤◌, length, drop, arith}
 use Rattle.luau_lexer.specs.Parts.{ends_at}
-use Rattle.luau_lexer.specs.Strings.{raw_part_at, Inner}
+use Rattle.syntax_tree.specs.Strings.{raw_part_at, Inner}
 use Rattle.luau_lexer.specs.Parts.{meant}
 use Rattle.luau_lexer.proofs.Bodies.{more_passed}
 use Rattle.luau_lexer.proofs.strings.broken_at.Goals as goal

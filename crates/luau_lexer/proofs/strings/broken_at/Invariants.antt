@@ -1,6 +1,6 @@
 use Rattle.std.proofs.Common.{◌-◌, length}
 use Rattle.luau_lexer.specs.Parts.{ends_at}
-use Rattle.luau_lexer.specs.Strings.{raw_part_at}
+use Rattle.syntax_tree.specs.Strings.{raw_part_at}
 use Rattle.luau_lexer.proofs.Bodies.{Passed}
 use Rattle.luau_lexer.proofs.strings.broken_at.Given as goal
 

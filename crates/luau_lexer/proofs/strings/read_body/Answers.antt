@@ -1,6 +1,6 @@
 use Rattle.std.proofs.Common.{◌≡◌, ap, sym, ◌∙◌, ◌≤◌, length, drop, List, ℕ, subst, arith}
 use Rattle.luau_lexer.specs.Parts.{ends_at, meant, body_of, IsBroken}
-use Rattle.luau_lexer.specs.Strings.{part_at, Inner, Malformed}
+use Rattle.syntax_tree.specs.Strings.{part_at, Inner, Malformed}
 use Rattle.luau_lexer.proofs.Bodies.{PassedText, no_text_passed, more_text_passed, broken_body}
 use Rattle.luau_lexer.proofs.strings.read_body.Goals as goal
 

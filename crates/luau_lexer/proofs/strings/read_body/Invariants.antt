@@ -1,6 +1,6 @@
 use Rattle.std.proofs.Common.{◌-◌, length}
 use Rattle.luau_lexer.specs.Parts.{ends_at}
-use Rattle.luau_lexer.specs.Strings.{part_at}
+use Rattle.syntax_tree.specs.Strings.{part_at}
 use Rattle.luau_lexer.proofs.Bodies.{PassedText}
 use Rattle.luau_lexer.proofs.strings.read_body.Given as goal
 

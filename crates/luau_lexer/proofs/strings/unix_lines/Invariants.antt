@@ -1,5 +1,5 @@
 use Rattle.std.proofs.Common.{◌≡◌, ◌++◌, drop}
-use Rattle.luau_lexer.specs.Strings.{unix_lines}
+use Rattle.syntax_tree.specs.Strings.{unix_lines}
 use Rattle.luau_lexer.proofs.strings.unix_lines.Given as goal
 
 abbrev pub invariant-loop-i : goal.invariant-loop-i

@@ -2,7 +2,7 @@ use Rattle.std.proofs.Common.{ℕ, Err, sym, ap, ◌∙◌, subst}
 use Rattle.syntax_tree.specs.Calls.{Ambiguous}
 use Rattle.expression_parser.specs.declared.fault.Fault.TheVariants as fault
 use Rattle.luau_parser.specs.Statements.{ReadsScript}
-use Rattle.luau_parser.specs.Parsed.{IsUnexpected, IsTooDeep}
+use Rattle.syntax_tree.specs.Parsed.{IsUnexpected, IsTooDeep}
 use Rattle.luau_parser.proofs.Refusing.{shown, parsed, unexpected, too_deep, deep_within, ambiguous}
 use Rattle.luau_parser.proofs.scripts.parse_tokens.Goals as goal
 

@@ -2,7 +2,7 @@ use Rattle.std.proofs.Common.{Some, ap, sym, ◌∙◌, subst, true, false}
 use Rattle.std.proofs.lemmas.Result.{err_from_is_err_and}
 use Rattle.byte_text.specs.Texts.{noted}
 use Rattle.luau_lexer.specs.Finding.{OpensExpression, Refuses}
-use Rattle.luau_lexer.specs.declared.form.Form.TheVariants as form
+use Rattle.syntax_tree.specs.declared.form.Form.TheVariants as form
 use Rattle.luau_lexer.proofs.Findings.{finds_begin, finds_whole, first_doubled}
 use Rattle.luau_lexer.proofs.lexer.Lexer.first_piece.Goals as goal
 

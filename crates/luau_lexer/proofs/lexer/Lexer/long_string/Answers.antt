@@ -1,8 +1,8 @@
 use Rattle.std.proofs.Common.{◌≡◌, ◌+◌, ◌≤◌, length, drop, Some, ap, ◌∙◌, refl, arith, length-drop}
 use Rattle.byte_text.specs.Texts.{noted}
 use Rattle.syntax_tree.specs.declared.token.TokenKind.TheVariants.{Str}
-use Rattle.luau_lexer.specs.declared.form.Form.TheVariants as form
-use Rattle.luau_lexer.specs.Plain.{Text}
+use Rattle.syntax_tree.specs.declared.form.Form.TheVariants as form
+use Rattle.syntax_tree.specs.Plain.{Text}
 use Rattle.luau_lexer.proofs.Findings.{finds_token, long_string_stands}
 use Rattle.luau_lexer.proofs.lexer.Lexer.long_string.Goals as goal
 

@@ -1,7 +1,7 @@
 use Rattle.std.proofs.Common.{◌≡◌, ap, ◌∙◌, arith, slice_get, take, length}
 use Rattle.std.specs.Str.{bytes_eq}
-use Rattle.luau_lexer.specs.Plain.{reserved, first_entry, word_of, name_len}
-use Rattle.luau_lexer.specs.Tokens.{IsKind, texts_behind}
+use Rattle.syntax_tree.specs.Plain.{reserved, first_entry, word_of, name_len}
+use Rattle.syntax_tree.specs.Tokens.{IsKind, texts_behind}
 use Rattle.luau_lexer.proofs.Findings.{finds_name, reserved_kind, name_kind, reserved_notes, name_notes}
 use Rattle.luau_lexer.proofs.lexer.Lexer.name.Goals as goal
 use Rattle.luau_lexer.proofs.lexer.Lexer.name.Goals.{in-Some, in-None+in_ok-note-in-None}

@@ -1,5 +1,5 @@
 use Rattle.std.proofs.Common.{subst}
-use Rattle.luau_lexer.specs.declared.form.Form.{Form}
+use Rattle.syntax_tree.specs.declared.form.Form.{Form}
 use Rattle.luau_lexer.specs.Finding.{Finds}
 use Rattle.luau_lexer.proofs.lexer.Lexer.next.Goals as goal
 

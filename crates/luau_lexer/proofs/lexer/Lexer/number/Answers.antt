@@ -1,10 +1,11 @@
 use Rattle.std.proofs.Common.{length, take, ap, ◌∙◌, refl, arith}
 use Rattle.syntax_tree.specs.declared.token.TokenKind.TheVariants.{Number}
 use Rattle.whole_num.specs.declared.literal.Read.TheVariants as read
-use Rattle.luau_lexer.specs.declared.error.LexErr.TheVariants.{BadNumber, NotWholeLiteral, LiteralRange}
-use Rattle.luau_lexer.specs.declared.form.Form.TheVariants as form
-use Rattle.luau_lexer.specs.Plain.{Numeral, number_len}
-use Rattle.luau_lexer.specs.Spellings.{Passes, Fails, Lexeme}
+use Rattle.syntax_tree.specs.Causes.{refused}
+use Rattle.syntax_tree.specs.declared.refusal.Cause.TheVariants.{BadNumber, NotWholeLiteral, LiteralRange}
+use Rattle.syntax_tree.specs.declared.form.Form.TheVariants as form
+use Rattle.syntax_tree.specs.Plain.{Numeral, number_len}
+use Rattle.syntax_tree.specs.Spellings.{Passes, Fails, Lexeme}
 use Rattle.luau_lexer.proofs.Findings.{finds_token, number_stands}
 use Rattle.luau_lexer.proofs.lexer.Lexer.number.Goals as goal
 
@@ -21,16 +22,16 @@ pub returns-in-NotWhole-clause-refused : goal.returns-in-NotWhole-clause-refused
 returns-in-NotWhole-clause-refused c =
     let rest = c.rest-bytes.ensures.value in
     let len = c.number_len-len.result in
-    number_stands c.args.self.now len c.split_at.result.0.now read.NotWhole _ (c.split_at.ensures.front ∙ ap (take len) rest) (c.number_len-len.ensures.value ∙ ap number_len rest) c.in-NotWhole.ensures.reads (ap (λ n. Fails (NotWholeLiteral n)) c.at.ensures)
+    number_stands c.args.self.now len c.split_at.result.0.now read.NotWhole _ (c.split_at.ensures.front ∙ ap (take len) rest) (c.number_len-len.ensures.value ∙ ap number_len rest) c.in-NotWhole.ensures.reads (ap (λ n. Fails (refused NotWholeLiteral n)) c.at.ensures)
 
 pub returns-in-OutOfRange-clause-refused : goal.returns-in-OutOfRange-clause-refused
 returns-in-OutOfRange-clause-refused c =
     let rest = c.rest-bytes.ensures.value in
     let len = c.number_len-len.result in
-    number_stands c.args.self.now len c.split_at.result.0.now read.OutOfRange _ (c.split_at.ensures.front ∙ ap (take len) rest) (c.number_len-len.ensures.value ∙ ap number_len rest) c.in-OutOfRange.ensures.reads (ap (λ n. Fails (LiteralRange n)) c.at-in-OutOfRange.ensures)
+    number_stands c.args.self.now len c.split_at.result.0.now read.OutOfRange _ (c.split_at.ensures.front ∙ ap (take len) rest) (c.number_len-len.ensures.value ∙ ap number_len rest) c.in-OutOfRange.ensures.reads (ap (λ n. Fails (refused LiteralRange n)) c.at-in-OutOfRange.ensures)
 
 pub returns-in-NotNumber-clause-refused : goal.returns-in-NotNumber-clause-refused
 returns-in-NotNumber-clause-refused c =
     let rest = c.rest-bytes.ensures.value in
     let len = c.number_len-len.result in
-    number_stands c.args.self.now len c.split_at.result.0.now read.NotNumber _ (c.split_at.ensures.front ∙ ap (take len) rest) (c.number_len-len.ensures.value ∙ ap number_len rest) c.in-NotNumber.ensures.reads (ap (λ n. Fails (BadNumber n)) c.at-in-NotNumber.ensures)
+    number_stands c.args.self.now len c.split_at.result.0.now read.NotNumber _ (c.split_at.ensures.front ∙ ap (take len) rest) (c.number_len-len.ensures.value ∙ ap number_len rest) c.in-NotNumber.ensures.reads (ap (λ n. Fails (refused BadNumber n)) c.at-in-NotNumber.ensures)

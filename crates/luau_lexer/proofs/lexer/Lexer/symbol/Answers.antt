@@ -1,5 +1,5 @@
 use Rattle.std.proofs.Common.{option_map, length, ap, ◌∙◌, arith}
-use Rattle.luau_lexer.specs.Plain.{symbol_at}
+use Rattle.syntax_tree.specs.Plain.{symbol_at}
 use Rattle.luau_lexer.proofs.Findings.{finds_symbol, symbol_len_fits}
 use Rattle.luau_lexer.proofs.Tables.{read_symbol}
 use Rattle.luau_lexer.proofs.lexer.Lexer.symbol.Goals as goal

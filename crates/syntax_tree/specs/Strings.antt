@@ -2,8 +2,8 @@
 use Rattle.std.specs.Prelude.{◌≡◌, ℕ, ◌+◌, ◌/◌, ◌%◌, min, nat_eq, nat_le, nat_lt, Bool, ◌&&◌, ◌⊎◌, List, [], ◌∷◌, ◌++◌, take, drop, if◌then◌else◌}
 use Rattle.std.specs.List.{prefix_len}
 use Rattle.std.specs.Str.Parse.{digits_value}
-use Rattle.luau_lexer.specs.Bytes.{is_digit, is_hex_digit, is_line_feed, begins}
-use Rattle.luau_lexer.specs.Gaps.{blanks_len}
+use Rattle.syntax_tree.specs.Bytes.{is_digit, is_hex_digit, is_line_feed, begins}
+use Rattle.syntax_tree.specs.Gaps.{blanks_len}
 
 -- What stands at a place within a string: so many bytes that stand for some bytes of the string's text, the byte that
 -- ends the string, a malformed escape, or what a string may not hold: a line's end, or the text's.

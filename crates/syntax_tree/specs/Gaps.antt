@@ -1,7 +1,7 @@
 -- Blanks, comments, and the brackets of long comments and long strings.
 use Rattle.std.specs.Prelude.{ℕ, ◌+◌, nat_eq, Bool, false, ◌&&◌, List, [], ◌∷◌, drop, Option, Some, None, option_map, if◌then◌else◌}
 use Rattle.std.specs.List.{prefix_len}
-use Rattle.luau_lexer.specs.Bytes.{is_blank, is_no_line_feed, is_equals, begins}
+use Rattle.syntax_tree.specs.Bytes.{is_blank, is_no_line_feed, is_equals, begins}
 
 -- how many blanks stand at the front
 abbrev pub blanks_len : List ℕ → ℕ

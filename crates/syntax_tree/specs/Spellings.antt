@@ -6,16 +6,17 @@ use Rattle.whole_num.specs.declared.literal.Read.{Read}
 use Rattle.whole_num.specs.declared.literal.Read.TheVariants as read
 use Rattle.syntax_tree.specs.declared.token.TokenKind.{TokenKind}
 use Rattle.syntax_tree.specs.declared.token.TokenKind.TheVariants as kind
-use Rattle.luau_lexer.specs.declared.error.LexErr.{LexErr}
-use Rattle.luau_lexer.specs.declared.error.LexErr.TheVariants.{BadByte, UnfinishedString, BadEscape, UnfinishedComment, BadNumber, NotWholeLiteral, LiteralRange, DoubleBrace}
-use Rattle.luau_lexer.specs.declared.form.Form.{Form}
-use Rattle.luau_lexer.specs.declared.form.Form.TheVariants as form
-use Rattle.luau_lexer.specs.declared.form.Opener.{Opener}
-use Rattle.luau_lexer.specs.declared.form.Opener.TheVariants as opener
-use Rattle.luau_lexer.specs.Bytes.{is_blank, is_name_start, begins, line_feeds}
-use Rattle.luau_lexer.specs.Gaps.{blanks_len, line_len, opening_level, closing_place, begins_comment}
-use Rattle.luau_lexer.specs.Plain.{Word, Fixed, Numeral, Text, BeginPiece, MidPiece, EndPiece, WholePiece, name_len, word_of, symbol_at, begins_number, number_len}
-use Rattle.luau_lexer.specs.Strings.{Body, Closed, Unclosed, Broken, HasBody, long_text}
+use Rattle.syntax_tree.specs.declared.refusal.Cause.TheVariants.{BadByte, UnfinishedString, BadEscape, UnfinishedComment, BadNumber, NotWholeLiteral, LiteralRange, DoubleBrace}
+use Rattle.syntax_tree.specs.declared.refusal.Refusal.{Refusal}
+use Rattle.syntax_tree.specs.declared.form.Form.{Form}
+use Rattle.syntax_tree.specs.declared.form.Form.TheVariants as form
+use Rattle.syntax_tree.specs.declared.form.Opener.{Opener}
+use Rattle.syntax_tree.specs.declared.form.Opener.TheVariants as opener
+use Rattle.syntax_tree.specs.Causes.{refused}
+use Rattle.syntax_tree.specs.Bytes.{is_blank, is_name_start, begins, line_feeds}
+use Rattle.syntax_tree.specs.Gaps.{blanks_len, line_len, opening_level, closing_place, begins_comment}
+use Rattle.syntax_tree.specs.Plain.{Word, Fixed, Numeral, Text, BeginPiece, MidPiece, EndPiece, WholePiece, name_len, word_of, symbol_at, begins_number, number_len}
+use Rattle.syntax_tree.specs.Strings.{Body, Closed, Unclosed, Broken, HasBody, long_text}
 
 -- How far a text was read: the bytes that are left, the offset and the line of the first of them, and the open braces,
 -- the innermost last. A brace is the symbol, or it begins an expression of an interpolated string.
@@ -37,7 +38,7 @@ pub data Step : Type 0 where
 pub data What : Type 0 where
   Passes : Step → What
   Ends : What
-  Fails : LexErr → What
+  Fails : Refusal → What
 
 -- the place so many bytes further, with these open braces
 abbrev pub further : ℕ → List Opener → Place → Place
@@ -91,32 +92,32 @@ form_of (b ∷ bs) braces =
 -- A long comment, with the place of its closing bracket behind the opening one: two `-`, the bracket, what stands between,
 -- and the bracket. It has no end where there is no place.
 abbrev pub long_comment : Place → (level : ℕ) → Option ℕ → What
-long_comment p level None = Fails (UnfinishedComment p.at)
+long_comment p level None = Fails (refused UnfinishedComment p.at)
 long_comment p level (Some k) = Passes (Gap (2 + (level + 2) + k + (level + 2)))
 
 -- a long string, in the same way
 abbrev pub long_string : Place → (level : ℕ) → Option ℕ → What
-long_string p level None = Fails (UnfinishedString p.at)
+long_string p level None = Fails (refused UnfinishedString p.at)
 long_string p level (Some k) =
     Passes (Lexeme (Text (long_text (take k (drop (level + 2) p.bytes)))) (level + 2 + k + (level + 2)) p.braces)
 
 -- a number, by what its bytes are read as
 abbrev pub number : Place → (len : ℕ) → Read → What
 number p len (read.Whole n) = Passes (Lexeme (Numeral n) len p.braces)
-number p len read.NotWhole = Fails (NotWholeLiteral p.at)
-number p len read.OutOfRange = Fails (LiteralRange p.at)
-number p len read.NotNumber = Fails (BadNumber p.at)
+number p len read.NotWhole = Fails (refused NotWholeLiteral p.at)
+number p len read.OutOfRange = Fails (refused LiteralRange p.at)
+number p len read.NotNumber = Fails (refused BadNumber p.at)
 
 -- a symbol; where there is none, the byte is a fault
 abbrev pub symbol : Place → Option (List ℕ × TokenKind) → What
-symbol p None = Fails (BadByte p.at)
+symbol p None = Fails (refused BadByte p.at)
 symbol p (Some e) = Passes (Lexeme (Fixed e.1) (length e.0) (braces_behind e.1 p.braces))
 
 -- a string in quotes, by its body between them
 abbrev pub quoted : Place → Body → What
 quoted p (Closed text len) = Passes (Lexeme (Text text) (len + 2) p.braces)
-quoted p Unclosed = Fails (UnfinishedString p.at)
-quoted p (Broken offset) = Fails (BadEscape (p.at + 1 + offset))
+quoted p Unclosed = Fails (refused UnfinishedString p.at)
+quoted p (Broken offset) = Fails (refused BadEscape (p.at + 1 + offset))
 
 -- the two bytes `{{`
 abbrev pub begins_two_braces : List ℕ → Bool
@@ -127,15 +128,15 @@ begins_two_braces (b ∷ bs) = nat_eq b 123 && begins (λ c. nat_eq c 123) bs
 -- A piece is the first one, or stands behind an expression.
 abbrev pub first_piece : Place → Body → What
 first_piece p (Closed text len) =
-    if begins_two_braces (drop (1 + len) p.bytes) then Fails (DoubleBrace (p.at + 1 + len)) else (if begins (λ b. nat_eq b 123) (drop (1 + len) p.bytes) then Passes (Lexeme (BeginPiece text) (len + 2) (p.braces ++ opener.Piece ∷ [])) else Passes (Lexeme (WholePiece text) (len + 2) p.braces))
-first_piece p Unclosed = Fails (UnfinishedString p.at)
-first_piece p (Broken offset) = Fails (BadEscape (p.at + 1 + offset))
+    if begins_two_braces (drop (1 + len) p.bytes) then Fails (refused DoubleBrace (p.at + 1 + len)) else (if begins (λ b. nat_eq b 123) (drop (1 + len) p.bytes) then Passes (Lexeme (BeginPiece text) (len + 2) (p.braces ++ opener.Piece ∷ [])) else Passes (Lexeme (WholePiece text) (len + 2) p.braces))
+first_piece p Unclosed = Fails (refused UnfinishedString p.at)
+first_piece p (Broken offset) = Fails (refused BadEscape (p.at + 1 + offset))
 
 abbrev pub next_piece : Place → Body → What
 next_piece p (Closed text len) =
-    if begins_two_braces (drop (1 + len) p.bytes) then Fails (DoubleBrace (p.at + 1 + len)) else (if begins (λ b. nat_eq b 123) (drop (1 + len) p.bytes) then Passes (Lexeme (MidPiece text) (len + 2) p.braces) else Passes (Lexeme (EndPiece text) (len + 2) (outer p.braces)))
-next_piece p Unclosed = Fails (UnfinishedString p.at)
-next_piece p (Broken offset) = Fails (BadEscape (p.at + 1 + offset))
+    if begins_two_braces (drop (1 + len) p.bytes) then Fails (refused DoubleBrace (p.at + 1 + len)) else (if begins (λ b. nat_eq b 123) (drop (1 + len) p.bytes) then Passes (Lexeme (MidPiece text) (len + 2) p.braces) else Passes (Lexeme (EndPiece text) (len + 2) (outer p.braces)))
+next_piece p Unclosed = Fails (refused UnfinishedString p.at)
+next_piece p (Broken offset) = Fails (refused BadEscape (p.at + 1 + offset))
 
 -- the byte that ends a piece: a backquote or `{`
 abbrev pub ends_piece : ℕ → Bool
@@ -210,8 +211,8 @@ pub record Spells (bytes : List ℕ) (tokens : List Spelled) : Type 0 where
   pub «end» : Stands to Ends
   pub tokens_are : tokens ≡ tokens_of (start bytes) steps
 
--- the first place where no form applies, and the cause
-pub record HasFault (bytes : List ℕ) (fault : LexErr) : Type 0 where
+-- the first place where no form applies, with why and where it shows
+pub record HasFault (bytes : List ℕ) (fault : Refusal) : Type 0 where
   pub steps : List Step
   pub to : Place
   pub turn : StandInTurn (start bytes) steps to

@@ -1,5 +1,8 @@
--- What the answers of `parse` say.
-use Rattle.std.specs.Prelude.{◌≡◌, ℕ, ◌+◌, ◌<◌, ◌≤◌, List, Option, Some, Result, Ok, Err, ◌⊎◌}
+-- Which tokens have a tree that is not too deep and has no ambiguous call, and why and where others are refused.
+use Rattle.std.specs.Prelude.{◌≡◌, ℕ, ◌+◌, ◌<◌, ◌≤◌, List, Some, ◌⊎◌}
+use Rattle.syntax_tree.specs.declared.refusal.Cause.{Cause}
+use Rattle.syntax_tree.specs.declared.refusal.Cause.TheVariants as cause
+use Rattle.syntax_tree.specs.declared.refusal.Refusal.{Refusal}
 use Rattle.syntax_tree.specs.declared.token.Token.{Token}
 use Rattle.syntax_tree.specs.declared.tree.Stat.{Stat}
 use Rattle.syntax_tree.specs.declared.tree.Tree.{Tree}
@@ -7,18 +10,16 @@ use Rattle.syntax_tree.specs.Calls.{IsLateCall, Ambiguous}
 use Rattle.syntax_tree.specs.Derivations.{IsChunk, main_function, Derives}
 use Rattle.syntax_tree.specs.Nest.{nest}
 use Rattle.syntax_tree.specs.Numbers.{numbered}
-use Rattle.type_skip.specs.Refusals.{offset_at, end_of, BeginsAs}
-use Rattle.parse_steps.specs.Openings.{openings}
-use Rattle.parse_steps.specs.Steps.{most}
-use Rattle.luau_parser.specs.declared.error.ParseErr.{ParseErr}
-use Rattle.luau_parser.specs.declared.error.ParseErr.TheVariants as refusal
+use Rattle.syntax_tree.specs.Places.{offset_at, end_of, BeginsAs}
+use Rattle.syntax_tree.specs.Openings.{openings}
+use Rattle.syntax_tree.specs.Limits.{most_nested}
 
--- a tree that derives and nests at most 200 deep, in whose types at most 200 brackets are open at once
+-- a tree that derives and does not nest too deep, in whose types not too many brackets are open at once
 pub record IsShallow (ts : List Token) (tree : Tree) : Type 0 where
   pub block : List Stat
-  pub derived : IsChunk ts most block
+  pub derived : IsChunk ts most_nested block
   pub numbers : tree ≡ numbered (main_function block)
-  pub nests : nest tree ≤ most
+  pub nests : nest tree ≤ most_nested
 
 -- no call is ambiguous
 abbrev pub HasClearCalls : List Token → Type 0
@@ -32,20 +33,20 @@ pub record IsUnexpected (ts : List Token) (at : ℕ) : Type 0 where
   pub no_tree : (tree : Tree) → Derives ts tree → ⊥
   pub place : ((k : ℕ) × (offset_at ts k ≡ Some at) × ((us : List Token) (tree : Tree) → BeginsAs ts (k + 1) us → Derives us tree → ⊥)) ⊎ (at ≡ end_of ts)
 
--- More than 200 opening tokens stand up to this one, and no tokens that begin with those up to and including it have a tree that is not
--- too deep.
+-- More opening tokens than may nest stand up to this one, and no tokens that begin with those up to and including it have a tree that is
+-- not too deep.
 pub record IsTooDeep (ts : List Token) (at : ℕ) : Type 0 where
   pub place : ℕ
   pub offset : offset_at ts place ≡ Some at
-  pub many : most < openings ts (place + 1)
+  pub many : most_nested < openings ts (place + 1)
   pub none : (us : List Token) (tree : Tree) → BeginsAs ts (place + 1) us → IsShallow us tree → ⊥
 
-abbrev pub IsRefusal : List Token → ParseErr → Type 0
-IsRefusal ts (refusal.Unexpected at) = IsUnexpected ts at
-IsRefusal ts (refusal.TooDeep at) = IsTooDeep ts at
-IsRefusal ts (refusal.AmbiguousCall at) = Ambiguous ts at
-IsRefusal ts refusal.OutOfMemory = Unit {0}
+-- why tokens are refused, and where
+abbrev pub IsRefusedFor : List Token → Cause → (at : ℕ) → Type 0
+IsRefusedFor ts cause.Unexpected at = IsUnexpected ts at
+IsRefusedFor ts cause.TooDeep at = IsTooDeep ts at
+IsRefusedFor ts cause.AmbiguousCall at = Ambiguous ts at
+IsRefusedFor ts _ at = ⊥
 
--- an answer that memory may stand in the way of
-abbrev pub Answers : Result Tree ParseErr → Result Tree ParseErr → Type 0
-Answers wanted result = (result ≡ wanted) ⊎ (result ≡ Err refusal.OutOfMemory)
+abbrev pub HasRefusal : List Token → Refusal → Type 0
+HasRefusal ts r = IsRefusedFor ts r.cause r.at

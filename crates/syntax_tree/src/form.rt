@@ -2,9 +2,10 @@
 
 /// What the first bytes of a text begin.
 #[derive(Clone, Copy)]
-pub(crate) enum Form {
+pub enum Form {
     /// The text ends here.
     Finished,
+    /// Blanks, as many as stand there.
     Blanks,
     /// A comment to the line's end.
     LineComment,
@@ -12,6 +13,7 @@ pub(crate) enum Form {
     LongComment(usize),
     /// A name or a reserved word.
     Name,
+    /// A number.
     Number,
     /// A string in quotes of this kind.
     Quoted(u8),
@@ -27,7 +29,7 @@ pub(crate) enum Form {
 
 /// What an open brace belongs to.
 #[derive(Clone, Copy)]
-pub(crate) enum Opener {
+pub enum Opener {
     /// It is the symbol.
     Brace,
     /// It begins an expression of an interpolated string.

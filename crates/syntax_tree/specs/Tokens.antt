@@ -5,10 +5,8 @@ use Rattle.byte_text.specs.declared.StrId.{StrId}
 use Rattle.syntax_tree.specs.declared.token.Token.{Token}
 use Rattle.syntax_tree.specs.declared.token.TokenKind.{TokenKind}
 use Rattle.syntax_tree.specs.declared.token.TokenKind.TheVariants.{Name, Number, Str, InterpBegin, InterpMid, InterpEnd, InterpWhole}
-use Rattle.luau_lexer.specs.declared.error.LexErr.{LexErr}
-use Rattle.luau_lexer.specs.declared.error.LexErr.TheVariants.{OutOfMemory}
-use Rattle.luau_lexer.specs.Plain.{Word, Fixed, Named, Numeral, Text, BeginPiece, MidPiece, EndPiece, WholePiece}
-use Rattle.luau_lexer.specs.Spellings.{Spelled, Spells, HasFault}
+use Rattle.syntax_tree.specs.Plain.{Word, Fixed, Named, Numeral, Text, BeginPiece, MidPiece, EndPiece, WholePiece}
+use Rattle.syntax_tree.specs.Spellings.{Spelled, Spells}
 
 -- a kind of token with the number of a text
 pub record IsTexted (texts : List (List ℕ)) (of : StrId → TokenKind) (text : List ℕ) (kind : TokenKind) : Type 0 where
@@ -61,12 +59,3 @@ pub record HasTokens (bytes : List ℕ) (tokens : List Token) : Type 0 where
   pub spelled : List Spelled
   pub spells : Spells bytes spelled
   pub tokens_are : AreTokens (texts_after fixed_texts spelled) spelled tokens
-
--- each text that has a number keeps it
-pub record Keeps (old new : List (List ℕ)) : Type 0 where
-  pub at : (i : ℕ) (text : List ℕ) → slice_get old i ≡ Some text → slice_get new i ≡ Some text
-
--- a refusal is the text's fault; want of memory says nothing of the text
-abbrev pub IsRefusal : (bytes : List ℕ) → LexErr → Type 0
-IsRefusal bytes OutOfMemory = Unit {0}
-IsRefusal bytes fault = HasFault bytes fault

@@ -4,7 +4,7 @@ use Rattle.std.specs.List.{prefix_len, starts_with}
 use Rattle.std.specs.Str.{bytes_eq}
 use Rattle.syntax_tree.specs.declared.token.TokenKind.{TokenKind}
 use Rattle.syntax_tree.specs.declared.token.TokenKind.TheVariants as kind
-use Rattle.luau_lexer.specs.Bytes.{is_digit, is_name_byte, is_number_byte, begins}
+use Rattle.syntax_tree.specs.Bytes.{is_digit, is_name_byte, is_number_byte, begins}
 
 -- What a token says, with its text in place of the text's number: a reserved word or a symbol, a name, a number, a
 -- string, or a piece of an interpolated string: the first, one in the middle, the last, or the only one.
