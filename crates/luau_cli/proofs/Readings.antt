@@ -2,7 +2,7 @@
 use Rattle.std.proofs.Common.{◌≡◌, ◌∙◌, ℕ, List, Option, Some, None, IfSome, option_map, Result, Ok, Err, IfOk, sym, subst}
 use Rattle.resource.specs.declared.memory.OutOfMemory.{OutOfMemory}
 use Rattle.syntax_tree.specs.declared.fault.ScopeFault.{ScopeFault}
-use Rattle.syntax_tree.specs.declared.refusal.Refusal.{Refusal}
+use Rattle.syntax_tree.specs.declared.fault.Refusal.{Refusal}
 use Rattle.syntax_tree.specs.declared.token.Token.{Token}
 use Rattle.syntax_tree.specs.declared.tree.Tree.{Tree}
 use Rattle.syntax_tree.specs.Accepts as accepts

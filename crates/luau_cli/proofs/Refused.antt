@@ -3,9 +3,9 @@ use Rattle.std.proofs.Common.{◌≡◌, ◌∙◌, ℕ, List, [], Some, refl, s
 use Rattle.std.specs.Prelude.{Contains}
 use Rattle.std.proofs.lemmas.Option.{none-some}
 use Rattle.syntax_tree.specs.declared.fault.ScopeFault.{ScopeFault}
-use Rattle.syntax_tree.specs.declared.refusal.Cause.{Cause}
-use Rattle.syntax_tree.specs.declared.refusal.Cause.TheVariants as cause
-use Rattle.syntax_tree.specs.declared.refusal.Refusal.{Refusal}
+use Rattle.syntax_tree.specs.declared.fault.Cause.{Cause}
+use Rattle.syntax_tree.specs.declared.fault.Cause.TheVariants as cause
+use Rattle.syntax_tree.specs.declared.fault.Refusal.{Refusal}
 use Rattle.syntax_tree.specs.declared.token.Token.{Token}
 use Rattle.syntax_tree.specs.declared.tree.Tree.{Tree}
 use Rattle.syntax_tree.specs.Accepts.{Accepts, Refuses, no_tokens, no_tree, breaks_rule}

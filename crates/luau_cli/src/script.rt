@@ -1,7 +1,7 @@
 //! From a text to the tree that is run, or to its refusal.
 
 ghost use Rattle.std.specs.Prelude.{◌≡◌, IfOk, Some};
-ghost use Rattle.syntax_tree.specs.declared.refusal.Refusal.{Refusal};
+ghost use Rattle.syntax_tree.specs.declared.fault.Refusal.{Refusal};
 ghost use Rattle.luau_cli.specs.declared.refusal.ScriptErr.TheVariants as script_error;
 ghost use Rattle.luau_cli.specs.declared.script.Reading.TheVariants as reading;
 ghost use Rattle.luau_cli.specs.Refusals.{IsReadingOf, IsCompilable};

@@ -5,7 +5,7 @@ use Rattle.byte_text.specs.Texts.{noted}
 use Rattle.byte_text.specs.declared.StrId.{StrId}
 use Rattle.whole_num.specs.Literals.{ReadsLiteral}
 use Rattle.whole_num.specs.declared.literal.Read.{Read}
-use Rattle.syntax_tree.specs.declared.refusal.Refusal.{Refusal}
+use Rattle.syntax_tree.specs.declared.fault.Refusal.{Refusal}
 use Rattle.syntax_tree.specs.declared.token.Token.{Token}
 use Rattle.syntax_tree.specs.declared.token.TokenKind.{TokenKind}
 use Rattle.syntax_tree.specs.declared.token.TokenKind.TheVariants.{Name, Str, InterpBegin, InterpMid, InterpEnd, InterpWhole}

@@ -1,6 +1,6 @@
 -- Each text has either one list of tokens or one fault.
 use Rattle.std.proofs.Common.{◌≡◌, ℕ, zero, suc, ◌<◌, ◌≤◌, List, [], ◌∷◌, length, refl, sym, ap, ◌∙◌, arith, length-drop}
-use Rattle.syntax_tree.specs.declared.refusal.Refusal.{Refusal}
+use Rattle.syntax_tree.specs.declared.fault.Refusal.{Refusal}
 use Rattle.syntax_tree.specs.Spellings.{Place, start, Step, What, Passes, Ends, Fails, behind, Stands, StandInTurn, Spelled, tokens_of, Spells, HasFault}
 use Rattle.luau_lexer.specs.Laws.{Reading, Tokens, Fault, HasReading, HasOneReading, AllHaveOneReading}
 use Rattle.luau_lexer.proofs.UniquePlaces.{IsStop, turn_once}

@@ -5,7 +5,7 @@ use Rattle.byte_text.specs.Texts.{fixed_texts, AreDistinct}
 use Rattle.byte_text.proofs.Numbering.{AreDistinct-noted, AreDistinct-fixed}
 use Rattle.syntax_tree.specs.declared.token.Token.{Token}
 use Rattle.syntax_tree.specs.declared.token.TokenKind.{TokenKind}
-use Rattle.syntax_tree.specs.declared.refusal.Refusal.{Refusal}
+use Rattle.syntax_tree.specs.declared.fault.Refusal.{Refusal}
 use Rattle.syntax_tree.specs.Plain.{Word, Fixed, Named, Numeral, Text, BeginPiece, MidPiece, EndPiece, WholePiece}
 use Rattle.syntax_tree.specs.Spellings.{Spelled, Spells, HasFault}
 use Rattle.syntax_tree.specs.Tokens.{IsTexted, IsKind, IsToken, AreTokens, texts_behind, texts_after, HasTokens}

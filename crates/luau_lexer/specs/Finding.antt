@@ -1,6 +1,6 @@
--- What the lexer finds at a place.
+-- Of the crate's own functions: what the lexer finds at a place.
 use Rattle.std.specs.Prelude.{◌≡◌, ℕ, ◌+◌, ◌<◌, ◌≤◌, nat_eq, Bool, true, false, List, length, drop, IfSome}
-use Rattle.syntax_tree.specs.declared.refusal.Refusal.{Refusal}
+use Rattle.syntax_tree.specs.declared.fault.Refusal.{Refusal}
 use Rattle.syntax_tree.specs.declared.token.Token.{Token}
 use Rattle.luau_lexer.specs.declared.error.LexErr.{LexErr}
 use Rattle.luau_lexer.specs.declared.error.LexErr.TheVariants.{DoubleBrace}

@@ -2,7 +2,7 @@
 use Rattle.std.specs.Prelude.{◌≡◌, ℕ, ◌⊎◌, List, Some, Result, Ok, Err, slice_get}
 use Rattle.std.specs.declared.alloc.Global.{Global}
 use Rattle.std.specs.declared.vec.Vec.{Vec}
-use Rattle.syntax_tree.specs.declared.refusal.Refusal.{Refusal}
+use Rattle.syntax_tree.specs.declared.fault.Refusal.{Refusal}
 use Rattle.syntax_tree.specs.declared.token.Token.{Token}
 use Rattle.luau_lexer.specs.declared.error.LexErr.{LexErr}
 use Rattle.luau_lexer.specs.declared.error.LexErr.TheVariants.{OutOfMemory}

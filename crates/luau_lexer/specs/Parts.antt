@@ -1,4 +1,4 @@
--- What the functions that read strings find, as the definitions say it.
+-- Of the crate's own functions: what those that read strings find, as the definitions say it.
 use Rattle.std.specs.Prelude.{◌≡◌, ℕ, ◌<◌, ◌≤◌, nat_eq, Bool, List, [], ◌∷◌}
 use Rattle.luau_lexer.specs.declared.strings.Meaning.{Meaning}
 use Rattle.luau_lexer.specs.declared.strings.Meaning.TheVariants as meaning

@@ -1,7 +1,7 @@
 -- What a refusal of `lex` says of the text.
 use Rattle.std.specs.Prelude.{ℕ, List, Option, Some, None, IfSome}
-use Rattle.syntax_tree.specs.declared.refusal.Cause.TheVariants as cause
-use Rattle.syntax_tree.specs.declared.refusal.Refusal.{Refusal}
+use Rattle.syntax_tree.specs.declared.fault.Cause.TheVariants as cause
+use Rattle.syntax_tree.specs.declared.fault.Refusal.{Refusal}
 use Rattle.syntax_tree.specs.Causes.{refused}
 use Rattle.syntax_tree.specs.Spellings.{HasFault}
 use Rattle.luau_lexer.specs.declared.error.LexErr.{LexErr}

@@ -1,7 +1,7 @@
 -- What the answers of `parse` say.
 use Rattle.std.specs.Prelude.{◌≡◌, List, Option, Some, None, IfSome, Result, Err, ◌⊎◌}
-use Rattle.syntax_tree.specs.declared.refusal.Cause.TheVariants as cause
-use Rattle.syntax_tree.specs.declared.refusal.Refusal.{Refusal}
+use Rattle.syntax_tree.specs.declared.fault.Cause.TheVariants as cause
+use Rattle.syntax_tree.specs.declared.fault.Refusal.{Refusal}
 use Rattle.syntax_tree.specs.declared.token.Token.{Token}
 use Rattle.syntax_tree.specs.declared.tree.Tree.{Tree}
 use Rattle.syntax_tree.specs.Causes.{refused}

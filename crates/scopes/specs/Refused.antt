@@ -5,11 +5,11 @@ use Rattle.std.specs.declared.result.Result.TheVariants.{Ok, Err}
 use Rattle.syntax_tree.specs.declared.bindings.Bindings.{Bindings}
 use Rattle.syntax_tree.specs.declared.fault.ScopeFault.{ScopeFault}
 use Rattle.syntax_tree.specs.declared.fault.ScopeRule.TheVariants as rule
-use Rattle.syntax_tree.specs.declared.refusal.Refusal.{Refusal}
+use Rattle.syntax_tree.specs.declared.fault.Refusal.{Refusal}
 use Rattle.syntax_tree.specs.declared.tree.Tree.{Tree}
 use Rattle.syntax_tree.specs.Bound.{bound, faults, IsScopeFault}
-use Rattle.syntax_tree.specs.Causes.{refused}
-use Rattle.syntax_tree.specs.Faults.{NotAfter, cause_of}
+use Rattle.syntax_tree.specs.Causes.{refused, cause_of}
+use Rattle.syntax_tree.specs.Faults.{NotAfter}
 use Rattle.scopes.specs.declared.error.ScopeErr.{ScopeErr}
 use Rattle.scopes.specs.declared.error.ScopeErr.TheVariants as refusal
 

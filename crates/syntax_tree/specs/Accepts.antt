@@ -1,12 +1,11 @@
 -- Which texts are accepted, with their tree, and why and where others are refused.
 use Rattle.std.specs.Prelude.{◌≡◌, ℕ, List, []}
 use Rattle.syntax_tree.specs.declared.fault.ScopeFault.{ScopeFault}
-use Rattle.syntax_tree.specs.declared.refusal.Refusal.{Refusal}
+use Rattle.syntax_tree.specs.declared.fault.Refusal.{Refusal}
 use Rattle.syntax_tree.specs.declared.token.Token.{Token}
 use Rattle.syntax_tree.specs.declared.tree.Tree.{Tree}
 use Rattle.syntax_tree.specs.Bound.{faults, IsScopeFault}
-use Rattle.syntax_tree.specs.Causes.{refused}
-use Rattle.syntax_tree.specs.Faults.{cause_of}
+use Rattle.syntax_tree.specs.Causes.{refused, cause_of}
 use Rattle.syntax_tree.specs.Parsed.{IsParsed, HasRefusal}
 use Rattle.syntax_tree.specs.Spellings.{HasFault}
 use Rattle.syntax_tree.specs.Tokens.{HasTokens}

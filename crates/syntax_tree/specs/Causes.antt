@@ -1,9 +1,11 @@
 -- Why a script is refused: the causes by name and number.
 use Rattle.std.specs.Prelude.{ℕ, List, ◌++◌, codes}
 use Rattle.std.specs.Fmt.{decimal}
-use Rattle.syntax_tree.specs.declared.refusal.Cause.{Cause}
-use Rattle.syntax_tree.specs.declared.refusal.Cause.TheVariants as cause
-use Rattle.syntax_tree.specs.declared.refusal.Refusal.{Refusal}
+use Rattle.syntax_tree.specs.declared.fault.Cause.{Cause}
+use Rattle.syntax_tree.specs.declared.fault.Cause.TheVariants as cause
+use Rattle.syntax_tree.specs.declared.fault.Refusal.{Refusal}
+use Rattle.syntax_tree.specs.declared.fault.ScopeRule.{ScopeRule}
+use Rattle.syntax_tree.specs.declared.fault.ScopeRule.TheVariants as rule
 
 abbrev pub named : Cause → List ℕ × ℕ
 named cause.BadByte = (codes "BadByte", 1)
@@ -30,6 +32,16 @@ name c = (named c).0
 
 abbrev pub number : Cause → ℕ
 number c = (named c).1
+
+-- why a tree is refused that breaks a rule
+abbrev pub cause_of : ScopeRule → Cause
+cause_of rule.LoopWordOutside = cause.LoopWordOutside
+cause_of rule.UntilSkipsLocal = cause.UntilSkipsLocal
+cause_of rule.VarargOutside = cause.VarargOutside
+cause_of rule.TooManyLocals = cause.TooManyLocals
+cause_of rule.TooManyUpvalues = cause.TooManyUpvalues
+cause_of rule.TooWide = cause.TooWide
+cause_of rule.TooLong = cause.TooLong
 
 -- a cause that shows at a place
 abbrev pub refused : Cause → ℕ → Refusal

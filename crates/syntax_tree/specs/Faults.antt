@@ -1,20 +1,8 @@
 -- The first of the broken rules: the one at the earliest place, and at one place the one with the smallest number.
 use Rattle.std.specs.Prelude.{◌≡◌, ◌<◌, ◌≤◌, ◌⊎◌, ℕ, List, [], ◌∷◌, All, Contains}
-use Rattle.syntax_tree.specs.declared.fault.ScopeRule.TheVariants as rule
 use Rattle.syntax_tree.specs.declared.fault.ScopeRule.{ScopeRule}
 use Rattle.syntax_tree.specs.declared.fault.ScopeFault.{ScopeFault}
-use Rattle.syntax_tree.specs.declared.refusal.Cause.{Cause}
-use Rattle.syntax_tree.specs.declared.refusal.Cause.TheVariants as cause
-use Rattle.syntax_tree.specs.Causes.{number}
-
-abbrev pub cause_of : ScopeRule → Cause
-cause_of rule.LoopWordOutside = cause.LoopWordOutside
-cause_of rule.UntilSkipsLocal = cause.UntilSkipsLocal
-cause_of rule.VarargOutside = cause.VarargOutside
-cause_of rule.TooManyLocals = cause.TooManyLocals
-cause_of rule.TooManyUpvalues = cause.TooManyUpvalues
-cause_of rule.TooWide = cause.TooWide
-cause_of rule.TooLong = cause.TooLong
+use Rattle.syntax_tree.specs.Causes.{number, cause_of}
 
 abbrev pub number_of : ScopeRule → ℕ
 number_of r = number (cause_of r)

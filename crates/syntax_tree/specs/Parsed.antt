@@ -1,8 +1,8 @@
 -- Which tokens have a tree that is not too deep and has no ambiguous call, and why and where others are refused.
 use Rattle.std.specs.Prelude.{◌≡◌, ℕ, ◌+◌, ◌<◌, ◌≤◌, List, Some, ◌⊎◌}
-use Rattle.syntax_tree.specs.declared.refusal.Cause.{Cause}
-use Rattle.syntax_tree.specs.declared.refusal.Cause.TheVariants as cause
-use Rattle.syntax_tree.specs.declared.refusal.Refusal.{Refusal}
+use Rattle.syntax_tree.specs.declared.fault.Cause.{Cause}
+use Rattle.syntax_tree.specs.declared.fault.Cause.TheVariants as cause
+use Rattle.syntax_tree.specs.declared.fault.Refusal.{Refusal}
 use Rattle.syntax_tree.specs.declared.token.Token.{Token}
 use Rattle.syntax_tree.specs.declared.tree.Stat.{Stat}
 use Rattle.syntax_tree.specs.declared.tree.Tree.{Tree}

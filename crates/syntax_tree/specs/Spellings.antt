@@ -6,8 +6,8 @@ use Rattle.whole_num.specs.declared.literal.Read.{Read}
 use Rattle.whole_num.specs.declared.literal.Read.TheVariants as read
 use Rattle.syntax_tree.specs.declared.token.TokenKind.{TokenKind}
 use Rattle.syntax_tree.specs.declared.token.TokenKind.TheVariants as kind
-use Rattle.syntax_tree.specs.declared.refusal.Cause.TheVariants.{BadByte, UnfinishedString, BadEscape, UnfinishedComment, BadNumber, NotWholeLiteral, LiteralRange, DoubleBrace}
-use Rattle.syntax_tree.specs.declared.refusal.Refusal.{Refusal}
+use Rattle.syntax_tree.specs.declared.fault.Cause.TheVariants.{BadByte, UnfinishedString, BadEscape, UnfinishedComment, BadNumber, NotWholeLiteral, LiteralRange, DoubleBrace}
+use Rattle.syntax_tree.specs.declared.fault.Refusal.{Refusal}
 use Rattle.syntax_tree.specs.declared.form.Form.{Form}
 use Rattle.syntax_tree.specs.declared.form.Form.TheVariants as form
 use Rattle.syntax_tree.specs.declared.form.Opener.{Opener}

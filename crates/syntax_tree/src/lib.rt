@@ -11,20 +11,18 @@ mod level;
 mod limits;
 mod nesting;
 mod notes;
-mod refusal;
 mod token;
 mod tree;
 mod width;
 
 pub use bindings::{Bindings, Bound, LocalInfo};
-pub use fault::{ScopeFault, ScopeRule};
+pub use fault::{Cause, Refusal, ScopeFault, ScopeRule};
 pub use form::{Form, Opener};
 pub use length::bulk;
 pub use level::Level;
 pub use limits::{MOST_BULK, MOST_NESTED, MOST_REGISTERS, MOST_VARIABLES};
 pub use nesting::nest;
 pub use notes::{Leap, Note, Place, Visible};
-pub use refusal::{Cause, Refusal};
 pub use token::{Token, TokenKind};
 pub use tree::{
     Arm, BinOp, Expr, ExprArm, ExprKind, Field, FieldKind, FuncBody, Stat, StatKind, Tree, UnOp,

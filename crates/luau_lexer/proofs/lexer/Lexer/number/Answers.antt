@@ -2,7 +2,7 @@ use Rattle.std.proofs.Common.{length, take, ap, ◌∙◌, refl, arith}
 use Rattle.syntax_tree.specs.declared.token.TokenKind.TheVariants.{Number}
 use Rattle.whole_num.specs.declared.literal.Read.TheVariants as read
 use Rattle.syntax_tree.specs.Causes.{refused}
-use Rattle.syntax_tree.specs.declared.refusal.Cause.TheVariants.{BadNumber, NotWholeLiteral, LiteralRange}
+use Rattle.syntax_tree.specs.declared.fault.Cause.TheVariants.{BadNumber, NotWholeLiteral, LiteralRange}
 use Rattle.syntax_tree.specs.declared.form.Form.TheVariants as form
 use Rattle.syntax_tree.specs.Plain.{Numeral, number_len}
 use Rattle.syntax_tree.specs.Spellings.{Passes, Fails, Lexeme}
