@@ -1,10 +1,12 @@
--- Each text is read in one way.
-use Rattle.std.specs.Prelude.{◌≡◌, ℕ, ◌⊎◌, List, Result, Ok, Err}
+-- Each text is read in one way, and each symbol is the longest that stands there.
+use Rattle.std.specs.Prelude.{◌≡◌, ℕ, ◌≤◌, ◌⊎◌, List, ◌++◌, length, Some, slice_get, Result, Ok, Err}
 use Rattle.std.specs.declared.alloc.Global.{Global}
 use Rattle.std.specs.declared.vec.Vec.{Vec}
 use Rattle.syntax_tree.specs.declared.token.Token.{Token}
+use Rattle.syntax_tree.specs.declared.token.TokenKind.{TokenKind}
 use Rattle.luau_lexer.specs.declared.error.LexErr.{LexErr}
 use Rattle.luau_lexer.specs.declared.error.LexErr.TheVariants.{OutOfMemory}
+use Rattle.luau_lexer.specs.Plain.{symbols, symbol_at}
 use Rattle.luau_lexer.specs.Spellings.{Spelled, Spells, HasFault}
 use Rattle.luau_lexer.specs.Tokens.{AreTokens, HasTokens}
 
@@ -30,6 +32,10 @@ pub record AllHaveOneReading : Type 0 where
 -- a text has at most one list of tokens, the numbers of their texts among them
 pub record TokenListsAreOne : Type 0 where
   pub same : (bytes : List ℕ) (ts us : List Token) → HasTokens bytes ts → HasTokens bytes us → ts ≡ us
+
+-- no symbol of the table that stands at the front of some bytes is longer than the one that is taken there
+pub record SymbolsAreLongest : Type 0 where
+  pub longest : (bytes : List ℕ) (taken : List ℕ × TokenKind) → symbol_at bytes ≡ Some taken → (k : ℕ) (other : List ℕ × TokenKind) → slice_get symbols k ≡ Some other → (rest : List ℕ) → bytes ≡ other.0 ++ rest → length other.0 ≤ length taken.0
 
 -- an answer is what a text's reading says, unless memory ran out
 abbrev pub Answers : (texts : List (List ℕ)) → Reading → Result (Vec Token Global) LexErr → Type 0
