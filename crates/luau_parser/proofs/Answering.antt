@@ -7,14 +7,20 @@ use Rattle.syntax_tree.specs.declared.tree.Tree.{Tree}
 use Rattle.syntax_tree.specs.Calls.{Ambiguous}
 use Rattle.syntax_tree.specs.Derivations.{main_function, Derives}
 use Rattle.syntax_tree.specs.Numbers.{numbered}
+use Rattle.syntax_tree.specs.Proper.{IsProper}
 use Rattle.parse_steps.specs.Steps.{most}
 use Rattle.luau_parser.specs.declared.error.ParseErr.{ParseErr}
 use Rattle.luau_parser.specs.declared.error.ParseErr.TheVariants as refusal
 use Rattle.luau_parser.specs.Parsed.{IsShallow, IsParsed, IsRefusal, Answers}
 use Rattle.luau_parser.proofs.OneTree.{same_block}
+use Rattle.luau_parser.proofs.ProperTrees.{trees_are_proper}
 
 shallow_derives : {ts : List Token} {tree : Tree} → IsShallow ts tree → Derives ts tree
 shallow_derives s = record { brackets = most; block = s.block; derived = s.derived; numbers = s.numbers }
+
+pub proper_answer : (ts : List Token) (r : Result Tree ParseErr) → IfOk r (IsParsed ts) → IfOk r IsProper
+proper_answer ts (Ok tree) good = trees_are_proper ts tree (shallow_derives good.0)
+proper_answer ts (Err e) good = tt
 
 same_tree : {ts : List Token} {tree other : Tree} → IsShallow ts tree → IsShallow ts other → tree ≡ other
 same_tree a b =

@@ -16,7 +16,9 @@ pub mod FunctionStatTurns
 pub mod StatementOpenings
 pub mod TreeInduction
 pub mod TreeLevels
+pub mod NumberedFolds
 pub mod NumberedNest
+pub mod ProperTrees
 pub mod Sequences
 pub mod NodeStatements
 pub mod StatementTurns

@@ -2,6 +2,7 @@
 
 ghost use Rattle.std.specs.Prelude.{◌≡◌, ℕ, IfOk, IfErr, Ok, Err, unwrap_or};
 ghost use Rattle.syntax_tree.specs.Calls.{Ambiguous};
+ghost use Rattle.syntax_tree.specs.Proper.{IsProper};
 ghost use Rattle.syntax_tree.specs.declared.tree.Tree.{Tree};
 ghost use Rattle.type_skip.specs.Refusals.{offset_at, end_of};
 ghost use Rattle.luau_parser.specs.Parsed.{IsShallow, IsParsed, IsRefusal, Answers};
@@ -24,6 +25,8 @@ const MOST_NESTED: usize = 200;
 pub fn parse(alloc: Global, tokens: &[Token]) -> Result<Tree, ParseErr>
     // The tree derives from the tokens, nests at most 200 deep, and no call is ambiguous.
     ensures tree { IfOk result (IsParsed tokens.now) }
+    // Calls are calls, what is assigned to can be assigned to, and operators fit where they stand.
+    ensures proper { IfOk result IsProper }
     // A refusal says what is wrong with the tokens, and where.
     ensures refusal { IfErr result (IsRefusal tokens.now) }
     // Tokens with such a tree are answered by it, unless memory runs out.

@@ -2,7 +2,9 @@ mod lexing;
 mod printing;
 
 use lexing::tokens;
-use luau_parser::{ParseErr, parse};
+use luau_parser::{
+    ParseErr, example_refusals, example_trees, one_tree, parse, trees_are_proper,
+};
 use printing::Printer;
 use std::process::Abort;
 use std::test::Fail;
@@ -274,5 +276,14 @@ fn a_chain_of_two_hundred_is_read(rt: HostRuntime) -> Result<(), Fail> {
             Err(_) => return Err(Fail::from("refused")),
         }
     }
+    Ok(())
+}
+
+#[test]
+fn laws(rt: HostRuntime) -> Result<(), Fail> {
+    one_tree();
+    trees_are_proper();
+    example_trees();
+    example_refusals();
     Ok(())
 }

@@ -5,6 +5,7 @@ pub mod Nodes
 pub mod Numbers
 pub mod Operators
 pub mod Places
+pub mod Proper
 pub mod Types
 pub mod Words
 pub mod Bound
