@@ -36,13 +36,16 @@ not_longer n (x ∷ es) short zero e there =
     subst (λ (y : Entry). length y.0 ≤ n) (same_Some x e there) (omega (arith, less))
 not_longer n (x ∷ es) short (suc k) e there = not_longer n es (right (nat_lt (length x.0) (n + 1)) (none_longer n es) short) k e there
 
-first_is_longest : (p : List ℕ → Bool) (table : List Entry) → lengths_fall table ≡ true → (taken : Entry) → first_entry p table ≡ Some taken → (k : ℕ) (other : Entry) → slice_get table k ≡ Some other → p other.0 ≡ true → length other.0 ≤ length taken.0
+first_is_longest : (p : List ℕ → Bool) (table : List Entry) → lengths_fall table ≡ true → (taken : Entry) → first_entry p table ≡ Some taken →
+    (k : ℕ) (other : Entry) → slice_get table k ≡ Some other → p other.0 ≡ true → length other.0 ≤ length taken.0
 unfolding lengths_fall
 first_is_longest p [] fall taken first k other there passes = absurd (none-some other there)
 first_is_longest p (e ∷ es) fall taken first k other there passes =
-    by (p e.0) refl first k there (λ found n at. first_is_longest p es (right (none_longer (length e.0) es) (lengths_fall es) fall) taken found n other at passes)
+    let falls : lengths_fall es ≡ true = right (none_longer (length e.0) es) (lengths_fall es) fall in
+    by (p e.0) refl first k there (λ found n at. first_is_longest p es falls taken found n other at passes)
   where
-    by : (t : Bool) → p e.0 ≡ t → cond t (Some e) (first_entry p es) ≡ Some taken → (k : ℕ) → slice_get (e ∷ es) k ≡ Some other → (first_entry p es ≡ Some taken → (n : ℕ) → slice_get es n ≡ Some other → length other.0 ≤ length taken.0) → length other.0 ≤ length taken.0
+    by : (t : Bool) → p e.0 ≡ t → cond t (Some e) (first_entry p es) ≡ Some taken → (k : ℕ) → slice_get (e ∷ es) k ≡ Some other →
+        (first_entry p es ≡ Some taken → (n : ℕ) → slice_get es n ≡ Some other → length other.0 ≤ length taken.0) → length other.0 ≤ length taken.0
     by true is found zero at rest =
         let same : length e.0 ≡ length taken.0 = ap (λ (x : Entry). length x.0) (same_Some e taken found) in
         let here : length e.0 ≡ length other.0 = ap (λ (x : Entry). length x.0) (same_Some e other at) in

@@ -35,7 +35,8 @@ pub record TokenListsAreOne : Type 0 where
 
 -- no symbol of the table that stands at the front of some bytes is longer than the one that is taken there
 pub record SymbolsAreLongest : Type 0 where
-  pub longest : (bytes : List ℕ) (taken : List ℕ × TokenKind) → symbol_at bytes ≡ Some taken → (k : ℕ) (other : List ℕ × TokenKind) → slice_get symbols k ≡ Some other → (rest : List ℕ) → bytes ≡ other.0 ++ rest → length other.0 ≤ length taken.0
+  pub longest : (bytes : List ℕ) (taken : List ℕ × TokenKind) → symbol_at bytes ≡ Some taken → (k : ℕ) (other : List ℕ × TokenKind) →
+      slice_get symbols k ≡ Some other → (rest : List ℕ) → bytes ≡ other.0 ++ rest → length other.0 ≤ length taken.0
 
 -- an answer is what a text's reading says, unless memory ran out
 abbrev pub Answers : (texts : List (List ℕ)) → Reading → Result (Vec Token Global) LexErr → Type 0

@@ -1,144 +1,24 @@
 -- Numbering a tree changes nothing that a fold gives which does not look at numbers.
-use Rattle.std.proofs.Common.{◌≡◌, ℕ, ◌+◌, List, [], ◌∷◌, map, Option, Some, None, refl, sym, ap, ◌∙◌}
-use Rattle.syntax_tree.specs.declared.tree.ExprKind.{ExprKind, roll-ExprKind}
-use Rattle.syntax_tree.specs.declared.tree.FieldKind.{FieldKind, roll-FieldKind}
-use Rattle.syntax_tree.specs.declared.tree.StatKind.{StatKind, roll-StatKind}
-use Rattle.syntax_tree.specs.declared.tree.Arm.{Arm, roll-Arm}
-use Rattle.syntax_tree.specs.declared.tree.Expr.{Expr, roll-Expr}
-use Rattle.syntax_tree.specs.declared.tree.ExprArm.{ExprArm, roll-ExprArm}
-use Rattle.syntax_tree.specs.declared.tree.Field.{Field, roll-Field}
-use Rattle.syntax_tree.specs.declared.tree.FuncBody.{FuncBody, roll-FuncBody}
-use Rattle.syntax_tree.specs.declared.tree.Stat.{Stat, roll-Stat}
+use Rattle.std.proofs.Common.{◌≡◌, ℕ, ◌+◌, List, map, Some, None, refl, ◌∙◌}
+use Rattle.syntax_tree.specs.declared.tree.ExprKind.{ExprKind}
+use Rattle.syntax_tree.specs.declared.tree.FieldKind.{FieldKind}
+use Rattle.syntax_tree.specs.declared.tree.StatKind.{StatKind}
+use Rattle.syntax_tree.specs.declared.tree.Arm.{Arm}
+use Rattle.syntax_tree.specs.declared.tree.Expr.{Expr}
+use Rattle.syntax_tree.specs.declared.tree.ExprArm.{ExprArm}
+use Rattle.syntax_tree.specs.declared.tree.Field.{Field}
+use Rattle.syntax_tree.specs.declared.tree.FuncBody.{FuncBody}
+use Rattle.syntax_tree.specs.declared.tree.Stat.{Stat}
 use Rattle.syntax_tree.specs.declared.tree.ExprKind.TheOpen as level
-use Rattle.syntax_tree.specs.declared.tree.ExprKind.TheOpen.{Expr-F, FuncBody-F, Stat-F}
 use Rattle.syntax_tree.specs.declared.tree.ExprKind.TheViews as views
 use Rattle.syntax_tree.specs.Fold.{Steps, at_arm, at_expr, at_expr_arm, at_field, at_func, at_stat}
 use Rattle.syntax_tree.specs.Numbers.{Numbering, list, numbered_func}
-use Rattle.syntax_tree.specs.Numbers as number
 use Rattle.luau_parser.proofs.TreeInduction as induction
 use Rattle.luau_parser.proofs.TreeInduction.{With}
-use Rattle.luau_parser.proofs.TreeLevels as levels
-use Rattle.luau_parser.proofs.TreeLevels.{at_kind, at_field_kind, at_stat_kind, ExprKindNode, FieldKindNode, StatKindNode, ArmNode, ExprNode, ExprArmNode, FieldNode, FuncBodyNode, StatNode}
-
--- ---- the numberings of all parts
-
-abbrev number_steps : Steps (Numbering ExprKind) (Numbering FieldKind) (Numbering StatKind) (Numbering Arm) (Numbering Expr)
-    (Numbering ExprArm) (Numbering Field) (Numbering FuncBody) (Numbering Stat)
-number_steps =
-    record {
-      kind = number.expr_kind;
-      field_kind = number.field_kind;
-      stat_kind = number.stat_kind;
-      arm = number.arm_level;
-      expr = number.expr_level;
-      expr_arm = number.expr_arm_level;
-      field = number.field_level;
-      func = number.func_level;
-      stat = number.stat_level;
-    }
-
-abbrev number_kind : ExprKind → Numbering ExprKind
-number_kind = at_kind number_steps
-
-abbrev number_field_kind : FieldKind → Numbering FieldKind
-number_field_kind = at_field_kind number_steps
-
-abbrev number_stat_kind : StatKind → Numbering StatKind
-number_stat_kind = at_stat_kind number_steps
-
-abbrev number_arm : Arm → Numbering Arm
-number_arm = at_arm number_steps
-
-abbrev number_expr : Expr → Numbering Expr
-number_expr = at_expr number_steps
-
-abbrev number_expr_arm : ExprArm → Numbering ExprArm
-number_expr_arm = at_expr_arm number_steps
-
-abbrev number_field : Field → Numbering Field
-number_field = at_field number_steps
-
-abbrev number_func : FuncBody → Numbering FuncBody
-number_func = numbered_func
-
-abbrev number_stat : Stat → Numbering Stat
-number_stat = at_stat number_steps
-
--- the parts without what holds of them
-abbrev bare : {X : Type 0} {P : X → Type 0} → List (With P) → List X
-bare = map (λ z. z.0)
-
--- of a list
-list_keeps : {X Y : Type 0} (gives : X → Y) (number : X → Numbering X)
-    (es : List (With (λ (x : X). (n : ℕ) → gives (number x n).0 ≡ gives x))) (n : ℕ) →
-    map gives (list (map number (bare es)) n).0 ≡ map gives (bare es)
-list_keeps gives number [] n = refl
-list_keeps gives number (e ∷ es) n = let rest = list_keeps gives number es (number e.0 n).1 in λ d. e.1 n d ∷ rest d
-
--- what a fold gives at a node is the same with any number
-pub record IgnoresNumbers {K L M A E X F B S : Type 0} (s : Steps K L M A E X F B S) : Type 0 where
-  pub expr : (e : Expr-F K L M A E X F B S) (n : ℕ) → s.expr (record { id = n; at = e.at; line = e.line; kind = e.kind }) ≡ s.expr e
-  pub func : (f : FuncBody-F K L M A E X F B S) (n : ℕ) →
-      s.func (record { id = n; at = f.at; line = f.line; params = f.params; vararg = f.vararg; body = f.body }) ≡ s.func f
-  pub stat : (t : Stat-F K L M A E X F B S) (n : ℕ) → s.stat (record { id = n; at = t.at; line = t.line; kind = t.kind }) ≡ s.stat t
+use Rattle.luau_parser.proofs.TreeLevels.{at_kind, at_field_kind, at_stat_kind}
+use Rattle.luau_parser.proofs.NumberedLevels.{number_kind, number_field_kind, number_stat_kind, number_arm, number_expr, number_expr_arm, number_field, number_func, number_stat, bare, list_keeps, IgnoresNumbers, kind_alike, field_kind_alike, stat_kind_alike, arm_alike, expr_alike, expr_arm_alike, field_alike, func_alike, stat_alike}
 
 module _ {K L M A E X F B S : Type 0} (s : Steps K L M A E X F B S) (ignores : IgnoresNumbers s) where
-  -- ---- where the parts of a node x, once numbered, make the node y, and these two give the same, so do their trees
-
-  kind_alike : (x y : ExprKindNode) (n : ℕ) → roll-ExprKind y ≡ (number.expr_kind (levels.kind_level number_steps x) n).0 →
-      s.kind (levels.kind_level s y) ≡ s.kind (levels.kind_level s x) → at_kind s (number_kind (roll-ExprKind x) n).0 ≡ at_kind s (roll-ExprKind x)
-  kind_alike x y n built alike =
-      ap (λ f. at_kind s (f n).0) (levels.kind_is number_steps x) ∙ ap (at_kind s) (sym built)
-      ∙ levels.kind_is s y ∙ alike ∙ sym (levels.kind_is s x)
-
-  field_kind_alike : (x y : FieldKindNode) (n : ℕ) → roll-FieldKind y ≡ (number.field_kind (levels.field_kind_level number_steps x) n).0 →
-      s.field_kind (levels.field_kind_level s y) ≡ s.field_kind (levels.field_kind_level s x) → at_field_kind s (number_field_kind (roll-FieldKind x) n).0 ≡ at_field_kind s (roll-FieldKind x)
-  field_kind_alike x y n built alike =
-      ap (λ f. at_field_kind s (f n).0) (levels.field_kind_is number_steps x) ∙ ap (at_field_kind s) (sym built)
-      ∙ levels.field_kind_is s y ∙ alike ∙ sym (levels.field_kind_is s x)
-
-  stat_kind_alike : (x y : StatKindNode) (n : ℕ) → roll-StatKind y ≡ (number.stat_kind (levels.stat_kind_level number_steps x) n).0 →
-      s.stat_kind (levels.stat_kind_level s y) ≡ s.stat_kind (levels.stat_kind_level s x) → at_stat_kind s (number_stat_kind (roll-StatKind x) n).0 ≡ at_stat_kind s (roll-StatKind x)
-  stat_kind_alike x y n built alike =
-      ap (λ f. at_stat_kind s (f n).0) (levels.stat_kind_is number_steps x) ∙ ap (at_stat_kind s) (sym built)
-      ∙ levels.stat_kind_is s y ∙ alike ∙ sym (levels.stat_kind_is s x)
-
-  arm_alike : (x y : ArmNode) (n : ℕ) → roll-Arm y ≡ (number.arm_level (levels.arm_level number_steps x) n).0 →
-      s.arm (levels.arm_level s y) ≡ s.arm (levels.arm_level s x) → at_arm s (number_arm (roll-Arm x) n).0 ≡ at_arm s (roll-Arm x)
-  arm_alike x y n built alike =
-      ap (λ f. at_arm s (f n).0) (levels.arm_is number_steps x) ∙ ap (at_arm s) (sym built)
-      ∙ levels.arm_is s y ∙ alike ∙ sym (levels.arm_is s x)
-
-  expr_alike : (x y : ExprNode) (n : ℕ) → roll-Expr y ≡ (number.expr_level (levels.expr_level number_steps x) n).0 →
-      s.expr (levels.expr_level s y) ≡ s.expr (levels.expr_level s x) → at_expr s (number_expr (roll-Expr x) n).0 ≡ at_expr s (roll-Expr x)
-  expr_alike x y n built alike =
-      ap (λ f. at_expr s (f n).0) (levels.expr_is number_steps x) ∙ ap (at_expr s) (sym built)
-      ∙ levels.expr_is s y ∙ alike ∙ sym (levels.expr_is s x)
-
-  expr_arm_alike : (x y : ExprArmNode) (n : ℕ) → roll-ExprArm y ≡ (number.expr_arm_level (levels.expr_arm_level number_steps x) n).0 →
-      s.expr_arm (levels.expr_arm_level s y) ≡ s.expr_arm (levels.expr_arm_level s x) → at_expr_arm s (number_expr_arm (roll-ExprArm x) n).0 ≡ at_expr_arm s (roll-ExprArm x)
-  expr_arm_alike x y n built alike =
-      ap (λ f. at_expr_arm s (f n).0) (levels.expr_arm_is number_steps x) ∙ ap (at_expr_arm s) (sym built)
-      ∙ levels.expr_arm_is s y ∙ alike ∙ sym (levels.expr_arm_is s x)
-
-  field_alike : (x y : FieldNode) (n : ℕ) → roll-Field y ≡ (number.field_level (levels.field_level number_steps x) n).0 →
-      s.field (levels.field_level s y) ≡ s.field (levels.field_level s x) → at_field s (number_field (roll-Field x) n).0 ≡ at_field s (roll-Field x)
-  field_alike x y n built alike =
-      ap (λ f. at_field s (f n).0) (levels.field_is number_steps x) ∙ ap (at_field s) (sym built)
-      ∙ levels.field_is s y ∙ alike ∙ sym (levels.field_is s x)
-
-  func_alike : (x y : FuncBodyNode) (n : ℕ) → roll-FuncBody y ≡ (number.func_level (levels.func_level number_steps x) n).0 →
-      s.func (levels.func_level s y) ≡ s.func (levels.func_level s x) → at_func s (number_func (roll-FuncBody x) n).0 ≡ at_func s (roll-FuncBody x)
-  func_alike x y n built alike =
-      ap (λ f. at_func s (f n).0) (levels.func_is number_steps x) ∙ ap (at_func s) (sym built)
-      ∙ levels.func_is s y ∙ alike ∙ sym (levels.func_is s x)
-
-  stat_alike : (x y : StatNode) (n : ℕ) → roll-Stat y ≡ (number.stat_level (levels.stat_level number_steps x) n).0 →
-      s.stat (levels.stat_level s y) ≡ s.stat (levels.stat_level s x) → at_stat s (number_stat (roll-Stat x) n).0 ≡ at_stat s (roll-Stat x)
-  stat_alike x y n built alike =
-      ap (λ f. at_stat s (f n).0) (levels.stat_is number_steps x) ∙ ap (at_stat s) (sym built)
-      ∙ levels.stat_is s y ∙ alike ∙ sym (levels.stat_is s x)
-
   -- ---- what is to be proved of each part
 
   abbrev kind_keeps : ExprKind → Type 0
@@ -202,190 +82,221 @@ module _ {K L M A E X F B S : Type 0} (s : Steps K L M A E X F B S) (ignores : I
 
   kind_step : (y : induction.kind_with kind_keeps field_kind_keeps stat_kind_keeps arm_keeps expr_keeps expr_arm_keeps field_keeps func_keeps stat_keeps) →
       kind_keeps (induction.kind_of kind_keeps field_kind_keeps stat_kind_keeps arm_keeps expr_keeps expr_arm_keeps field_keeps func_keeps stat_keeps y)
-  kind_step level.Nil m = kind_alike level.Nil level.Nil m views.rolls-Nil refl
-  kind_step level.True m = kind_alike level.True level.True m views.rolls-True refl
-  kind_step level.False m = kind_alike level.False level.False m views.rolls-False refl
-  kind_step (level.Num n) m = kind_alike (level.Num n) (level.Num n) m (views.rolls-Num n) refl
-  kind_step (level.Str x) m = kind_alike (level.Str x) (level.Str x) m (views.rolls-Str x) refl
-  kind_step level.Vararg m = kind_alike level.Vararg level.Vararg m views.rolls-Vararg refl
-  kind_step (level.Name x) m = kind_alike (level.Name x) (level.Name x) m (views.rolls-Name x) refl
+  kind_step level.Nil m = kind_alike s level.Nil level.Nil m views.rolls-Nil refl
+  kind_step level.True m = kind_alike s level.True level.True m views.rolls-True refl
+  kind_step level.False m = kind_alike s level.False level.False m views.rolls-False refl
+  kind_step (level.Num n) m = kind_alike s (level.Num n) (level.Num n) m (views.rolls-Num n) refl
+  kind_step (level.Str x) m = kind_alike s (level.Str x) (level.Str x) m (views.rolls-Str x) refl
+  kind_step level.Vararg m = kind_alike s level.Vararg level.Vararg m views.rolls-Vararg refl
+  kind_step (level.Name x) m = kind_alike s (level.Name x) (level.Name x) m (views.rolls-Name x) refl
   kind_step (level.Paren e) m =
       let numbered_e = number_expr e.0 m in
-      kind_alike (level.Paren e.0) (level.Paren numbered_e.0) m
-      (views.rolls-Paren numbered_e.0) (λ d. s.kind (level.Paren (e.1 m d)))
+      kind_alike s (level.Paren e.0) (level.Paren numbered_e.0) m
+      (views.rolls-Paren numbered_e.0)
+      (λ d. s.kind (level.Paren (e.1 m d)))
   kind_step (level.Unary op e) m =
       let numbered_e = number_expr e.0 m in
-      kind_alike (level.Unary op e.0) (level.Unary op numbered_e.0) m
-      (views.rolls-Unary op numbered_e.0) (λ d. s.kind (level.Unary op (e.1 m d)))
+      kind_alike s (level.Unary op e.0) (level.Unary op numbered_e.0) m
+      (views.rolls-Unary op numbered_e.0)
+      (λ d. s.kind (level.Unary op (e.1 m d)))
   kind_step (level.Binary op a b) m =
       let numbered_a = number_expr a.0 m in
       let numbered_b = number_expr b.0 numbered_a.1 in
-      kind_alike (level.Binary op a.0 b.0) (level.Binary op numbered_a.0 numbered_b.0) m
-      (views.rolls-Binary op numbered_a.0 numbered_b.0) (λ d. s.kind (level.Binary op (a.1 m d) (b.1 numbered_a.1 d)))
+      kind_alike s (level.Binary op a.0 b.0) (level.Binary op numbered_a.0 numbered_b.0) m
+      (views.rolls-Binary op numbered_a.0 numbered_b.0)
+      (λ d. s.kind (level.Binary op (a.1 m d) (b.1 numbered_a.1 d)))
   kind_step (level.Concat es) m =
       let numbered_es = number_exprs es m in
-      kind_alike (level.Concat (bare es)) (level.Concat numbered_es.0) m
-      (views.rolls-Concat numbered_es.0) (λ d. s.kind (level.Concat (exprs_keep es m d)))
+      kind_alike s (level.Concat (bare es)) (level.Concat numbered_es.0) m
+      (views.rolls-Concat numbered_es.0)
+      (λ d. s.kind (level.Concat (exprs_keep es m d)))
   kind_step (level.Index a key) m =
       let numbered_a = number_expr a.0 m in
       let numbered_key = number_expr key.0 numbered_a.1 in
-      kind_alike (level.Index a.0 key.0) (level.Index numbered_a.0 numbered_key.0) m
-      (views.rolls-Index numbered_a.0 numbered_key.0) (λ d. s.kind (level.Index (a.1 m d) (key.1 numbered_a.1 d)))
+      kind_alike s (level.Index a.0 key.0) (level.Index numbered_a.0 numbered_key.0) m
+      (views.rolls-Index numbered_a.0 numbered_key.0)
+      (λ d. s.kind (level.Index (a.1 m d) (key.1 numbered_a.1 d)))
   kind_step (level.Member a x) m =
       let numbered_a = number_expr a.0 m in
-      kind_alike (level.Member a.0 x) (level.Member numbered_a.0 x) m
-      (views.rolls-Member numbered_a.0 x) (λ d. s.kind (level.Member (a.1 m d) x))
+      kind_alike s (level.Member a.0 x) (level.Member numbered_a.0 x) m
+      (views.rolls-Member numbered_a.0 x)
+      (λ d. s.kind (level.Member (a.1 m d) x))
   kind_step (level.ExprKind::Call a args) m =
       let numbered_a = number_expr a.0 m in
       let numbered_args = number_exprs args numbered_a.1 in
-      kind_alike (level.ExprKind::Call a.0 (bare args)) (level.ExprKind::Call numbered_a.0 numbered_args.0) m
-      (views.rolls-ExprKind::Call numbered_a.0 numbered_args.0) (λ d. s.kind (level.ExprKind::Call (a.1 m d) (exprs_keep args numbered_a.1 d)))
+      kind_alike s (level.ExprKind::Call a.0 (bare args)) (level.ExprKind::Call numbered_a.0 numbered_args.0) m
+      (views.rolls-ExprKind::Call numbered_a.0 numbered_args.0)
+      (λ d. s.kind (level.ExprKind::Call (a.1 m d) (exprs_keep args numbered_a.1 d)))
   kind_step (level.Method a x args) m =
       let numbered_a = number_expr a.0 m in
       let numbered_args = number_exprs args numbered_a.1 in
-      kind_alike (level.Method a.0 x (bare args)) (level.Method numbered_a.0 x numbered_args.0) m
-      (views.rolls-Method numbered_a.0 x numbered_args.0) (λ d. s.kind (level.Method (a.1 m d) x (exprs_keep args numbered_a.1 d)))
+      kind_alike s (level.Method a.0 x (bare args)) (level.Method numbered_a.0 x numbered_args.0) m
+      (views.rolls-Method numbered_a.0 x numbered_args.0)
+      (λ d. s.kind (level.Method (a.1 m d) x (exprs_keep args numbered_a.1 d)))
   kind_step (level.Table fs) m =
       let numbered_fs = number_fields fs m in
-      kind_alike (level.Table (bare fs)) (level.Table numbered_fs.0) m
-      (views.rolls-Table numbered_fs.0) (λ d. s.kind (level.Table (fields_keep fs m d)))
+      kind_alike s (level.Table (bare fs)) (level.Table numbered_fs.0) m
+      (views.rolls-Table numbered_fs.0)
+      (λ d. s.kind (level.Table (fields_keep fs m d)))
   kind_step (level.Function f) m =
       let numbered_f = number_func f.0 m in
-      kind_alike (level.Function f.0) (level.Function numbered_f.0) m
-      (views.rolls-Function numbered_f.0) (λ d. s.kind (level.Function (f.1 m d)))
+      kind_alike s (level.Function f.0) (level.Function numbered_f.0) m
+      (views.rolls-Function numbered_f.0)
+      (λ d. s.kind (level.Function (f.1 m d)))
   kind_step (level.ExprKind::If arms other) m =
       let numbered_arms = number_expr_arms arms m in
       let numbered_other = number_expr other.0 numbered_arms.1 in
-      kind_alike (level.ExprKind::If (bare arms) other.0) (level.ExprKind::If numbered_arms.0 numbered_other.0) m
-      (views.rolls-ExprKind::If numbered_arms.0 numbered_other.0) (λ d. s.kind (level.ExprKind::If (expr_arms_keep arms m d) (other.1 numbered_arms.1 d)))
+      kind_alike s (level.ExprKind::If (bare arms) other.0) (level.ExprKind::If numbered_arms.0 numbered_other.0) m
+      (views.rolls-ExprKind::If numbered_arms.0 numbered_other.0)
+      (λ d. s.kind (level.ExprKind::If (expr_arms_keep arms m d) (other.1 numbered_arms.1 d)))
   kind_step (level.Interp xs es) m =
       let numbered_es = number_exprs es m in
-      kind_alike (level.Interp xs (bare es)) (level.Interp xs numbered_es.0) m
-      (views.rolls-Interp xs numbered_es.0) (λ d. s.kind (level.Interp xs (exprs_keep es m d)))
+      kind_alike s (level.Interp xs (bare es)) (level.Interp xs numbered_es.0) m
+      (views.rolls-Interp xs numbered_es.0)
+      (λ d. s.kind (level.Interp xs (exprs_keep es m d)))
 
-  field_kind_step : (y : induction.field_kind_with kind_keeps field_kind_keeps stat_kind_keeps arm_keeps expr_keeps expr_arm_keeps field_keeps func_keeps stat_keeps) →
-      field_kind_keeps (induction.field_kind_of kind_keeps field_kind_keeps stat_kind_keeps arm_keeps expr_keeps expr_arm_keeps field_keeps func_keeps stat_keeps y)
+  field_kind_step : (y : induction.field_kind_with kind_keeps field_kind_keeps stat_kind_keeps arm_keeps expr_keeps
+      expr_arm_keeps field_keeps func_keeps stat_keeps) →
+      field_kind_keeps (induction.field_kind_of kind_keeps field_kind_keeps stat_kind_keeps arm_keeps expr_keeps
+      expr_arm_keeps field_keeps func_keeps stat_keeps y)
   field_kind_step (level.Item e) m =
       let numbered_e = number_expr e.0 m in
-      field_kind_alike (level.Item e.0) (level.Item numbered_e.0) m
+      field_kind_alike s (level.Item e.0) (level.Item numbered_e.0) m
       (views.rolls-Item numbered_e.0) (λ d. s.field_kind (level.Item (e.1 m d)))
   field_kind_step (level.Named x e) m =
       let numbered_e = number_expr e.0 m in
-      field_kind_alike (level.Named x e.0) (level.Named x numbered_e.0) m
+      field_kind_alike s (level.Named x e.0) (level.Named x numbered_e.0) m
       (views.rolls-Named x numbered_e.0) (λ d. s.field_kind (level.Named x (e.1 m d)))
   field_kind_step (level.Keyed key e) m =
       let numbered_key = number_expr key.0 m in
       let numbered_e = number_expr e.0 numbered_key.1 in
-      field_kind_alike (level.Keyed key.0 e.0) (level.Keyed numbered_key.0 numbered_e.0) m
+      field_kind_alike s (level.Keyed key.0 e.0) (level.Keyed numbered_key.0 numbered_e.0) m
       (views.rolls-Keyed numbered_key.0 numbered_e.0) (λ d. s.field_kind (level.Keyed (key.1 m d) (e.1 numbered_key.1 d)))
 
-  stat_kind_step : (y : induction.stat_kind_with kind_keeps field_kind_keeps stat_kind_keeps arm_keeps expr_keeps expr_arm_keeps field_keeps func_keeps stat_keeps) →
-      stat_kind_keeps (induction.stat_kind_of kind_keeps field_kind_keeps stat_kind_keeps arm_keeps expr_keeps expr_arm_keeps field_keeps func_keeps stat_keeps y)
+  stat_kind_step : (y : induction.stat_kind_with kind_keeps field_kind_keeps stat_kind_keeps arm_keeps expr_keeps
+      expr_arm_keeps field_keeps func_keeps stat_keeps) →
+      stat_kind_keeps (induction.stat_kind_of kind_keeps field_kind_keeps stat_kind_keeps arm_keeps expr_keeps
+      expr_arm_keeps field_keeps func_keeps stat_keeps y)
   stat_kind_step (level.Local xs es) m =
       let numbered_es = number_exprs es m in
-      stat_kind_alike (level.Local xs (bare es)) (level.Local xs numbered_es.0) m
-      (views.rolls-Local xs numbered_es.0) (λ d. s.stat_kind (level.Local xs (exprs_keep es m d)))
+      stat_kind_alike s (level.Local xs (bare es)) (level.Local xs numbered_es.0) m
+      (views.rolls-Local xs numbered_es.0)
+      (λ d. s.stat_kind (level.Local xs (exprs_keep es m d)))
   stat_kind_step (level.Assign es vs) m =
       let numbered_es = number_exprs es m in
       let numbered_vs = number_exprs vs numbered_es.1 in
-      stat_kind_alike (level.Assign (bare es) (bare vs)) (level.Assign numbered_es.0 numbered_vs.0) m
-      (views.rolls-Assign numbered_es.0 numbered_vs.0) (λ d. s.stat_kind (level.Assign (exprs_keep es m d) (exprs_keep vs numbered_es.1 d)))
+      stat_kind_alike s (level.Assign (bare es) (bare vs)) (level.Assign numbered_es.0 numbered_vs.0) m
+      (views.rolls-Assign numbered_es.0 numbered_vs.0)
+      (λ d. s.stat_kind (level.Assign (exprs_keep es m d) (exprs_keep vs numbered_es.1 d)))
   stat_kind_step (level.Compound op a e) m =
       let numbered_a = number_expr a.0 m in
       let numbered_e = number_expr e.0 numbered_a.1 in
-      stat_kind_alike (level.Compound op a.0 e.0) (level.Compound op numbered_a.0 numbered_e.0) m
-      (views.rolls-Compound op numbered_a.0 numbered_e.0) (λ d. s.stat_kind (level.Compound op (a.1 m d) (e.1 numbered_a.1 d)))
+      stat_kind_alike s (level.Compound op a.0 e.0) (level.Compound op numbered_a.0 numbered_e.0) m
+      (views.rolls-Compound op numbered_a.0 numbered_e.0)
+      (λ d. s.stat_kind (level.Compound op (a.1 m d) (e.1 numbered_a.1 d)))
   stat_kind_step (level.StatKind::Call e) m =
       let numbered_e = number_expr e.0 m in
-      stat_kind_alike (level.StatKind::Call e.0) (level.StatKind::Call numbered_e.0) m
-      (views.rolls-StatKind::Call numbered_e.0) (λ d. s.stat_kind (level.StatKind::Call (e.1 m d)))
+      stat_kind_alike s (level.StatKind::Call e.0) (level.StatKind::Call numbered_e.0) m
+      (views.rolls-StatKind::Call numbered_e.0)
+      (λ d. s.stat_kind (level.StatKind::Call (e.1 m d)))
   stat_kind_step (level.Do block) m =
       let numbered_block = number_stats block m in
-      stat_kind_alike (level.Do (bare block)) (level.Do numbered_block.0) m
-      (views.rolls-Do numbered_block.0) (λ d. s.stat_kind (level.Do (stats_keep block m d)))
+      stat_kind_alike s (level.Do (bare block)) (level.Do numbered_block.0) m
+      (views.rolls-Do numbered_block.0)
+      (λ d. s.stat_kind (level.Do (stats_keep block m d)))
   stat_kind_step (level.While c block) m =
       let numbered_c = number_expr c.0 m in
       let numbered_block = number_stats block numbered_c.1 in
-      stat_kind_alike (level.While c.0 (bare block)) (level.While numbered_c.0 numbered_block.0) m
-      (views.rolls-While numbered_c.0 numbered_block.0) (λ d. s.stat_kind (level.While (c.1 m d) (stats_keep block numbered_c.1 d)))
+      stat_kind_alike s (level.While c.0 (bare block)) (level.While numbered_c.0 numbered_block.0) m
+      (views.rolls-While numbered_c.0 numbered_block.0)
+      (λ d. s.stat_kind (level.While (c.1 m d) (stats_keep block numbered_c.1 d)))
   stat_kind_step (level.Repeat block c) m =
       let numbered_block = number_stats block m in
       let numbered_c = number_expr c.0 numbered_block.1 in
-      stat_kind_alike (level.Repeat (bare block) c.0) (level.Repeat numbered_block.0 numbered_c.0) m
-      (views.rolls-Repeat numbered_block.0 numbered_c.0) (λ d. s.stat_kind (level.Repeat (stats_keep block m d) (c.1 numbered_block.1 d)))
+      stat_kind_alike s (level.Repeat (bare block) c.0) (level.Repeat numbered_block.0 numbered_c.0) m
+      (views.rolls-Repeat numbered_block.0 numbered_c.0)
+      (λ d. s.stat_kind (level.Repeat (stats_keep block m d) (c.1 numbered_block.1 d)))
   stat_kind_step (level.StatKind::If arms None) m =
       let numbered_arms = number_arms arms m in
-      stat_kind_alike (level.StatKind::If (bare arms) None) (level.StatKind::If numbered_arms.0 None) m
-      (views.rolls-StatKind::If numbered_arms.0 None) (λ d. s.stat_kind (level.StatKind::If (arms_keep arms m d) None))
+      stat_kind_alike s (level.StatKind::If (bare arms) None) (level.StatKind::If numbered_arms.0 None) m
+      (views.rolls-StatKind::If numbered_arms.0 None)
+      (λ d. s.stat_kind (level.StatKind::If (arms_keep arms m d) None))
   stat_kind_step (level.StatKind::If arms (Some block)) m =
       let numbered_arms = number_arms arms m in
       let numbered_block = number_stats block numbered_arms.1 in
-      stat_kind_alike (level.StatKind::If (bare arms) (Some (bare block))) (level.StatKind::If numbered_arms.0 (Some numbered_block.0)) m
-      (views.rolls-StatKind::If numbered_arms.0 (Some numbered_block.0)) (λ d. s.stat_kind (level.StatKind::If (arms_keep arms m d) (Some (stats_keep block numbered_arms.1 d))))
+      stat_kind_alike s (level.StatKind::If (bare arms) (Some (bare block))) (level.StatKind::If numbered_arms.0 (Some numbered_block.0)) m
+      (views.rolls-StatKind::If numbered_arms.0 (Some numbered_block.0))
+      (λ d. s.stat_kind (level.StatKind::If (arms_keep arms m d) (Some (stats_keep block numbered_arms.1 d))))
   stat_kind_step (level.NumFor x a b None block) m =
       let numbered_a = number_expr a.0 m in
       let numbered_b = number_expr b.0 numbered_a.1 in
       let numbered_block = number_stats block numbered_b.1 in
-      stat_kind_alike (level.NumFor x a.0 b.0 None (bare block)) (level.NumFor x numbered_a.0 numbered_b.0 None numbered_block.0) m
-      (views.rolls-NumFor x numbered_a.0 numbered_b.0 None numbered_block.0) (λ d. s.stat_kind (level.NumFor x (a.1 m d) (b.1 numbered_a.1 d) None (stats_keep block numbered_b.1 d)))
+      stat_kind_alike s (level.NumFor x a.0 b.0 None (bare block)) (level.NumFor x numbered_a.0 numbered_b.0 None numbered_block.0) m
+      (views.rolls-NumFor x numbered_a.0 numbered_b.0 None numbered_block.0)
+      (λ d. s.stat_kind (level.NumFor x (a.1 m d) (b.1 numbered_a.1 d) None (stats_keep block numbered_b.1 d)))
   stat_kind_step (level.NumFor x a b (Some c) block) m =
       let numbered_a = number_expr a.0 m in
       let numbered_b = number_expr b.0 numbered_a.1 in
       let numbered_c = number_expr c.0 numbered_b.1 in
       let numbered_block = number_stats block numbered_c.1 in
-      stat_kind_alike (level.NumFor x a.0 b.0 (Some c.0) (bare block)) (level.NumFor x numbered_a.0 numbered_b.0 (Some numbered_c.0) numbered_block.0) m
-      (views.rolls-NumFor x numbered_a.0 numbered_b.0 (Some numbered_c.0) numbered_block.0) (λ d. s.stat_kind (level.NumFor x (a.1 m d) (b.1 numbered_a.1 d) (Some (c.1 numbered_b.1 d)) (stats_keep block numbered_c.1 d)))
+      stat_kind_alike s (level.NumFor x a.0 b.0 (Some c.0) (bare block)) (level.NumFor x numbered_a.0 numbered_b.0 (Some numbered_c.0) numbered_block.0) m
+      (views.rolls-NumFor x numbered_a.0 numbered_b.0 (Some numbered_c.0) numbered_block.0)
+      (λ d. s.stat_kind (level.NumFor x (a.1 m d) (b.1 numbered_a.1 d) (Some (c.1 numbered_b.1 d)) (stats_keep block numbered_c.1 d)))
   stat_kind_step (level.GenFor xs es block) m =
       let numbered_es = number_exprs es m in
       let numbered_block = number_stats block numbered_es.1 in
-      stat_kind_alike (level.GenFor xs (bare es) (bare block)) (level.GenFor xs numbered_es.0 numbered_block.0) m
-      (views.rolls-GenFor xs numbered_es.0 numbered_block.0) (λ d. s.stat_kind (level.GenFor xs (exprs_keep es m d) (stats_keep block numbered_es.1 d)))
+      stat_kind_alike s (level.GenFor xs (bare es) (bare block)) (level.GenFor xs numbered_es.0 numbered_block.0) m
+      (views.rolls-GenFor xs numbered_es.0 numbered_block.0)
+      (λ d. s.stat_kind (level.GenFor xs (exprs_keep es m d) (stats_keep block numbered_es.1 d)))
   stat_kind_step (level.LocalFunction x f) m =
       let numbered_f = number_func f.0 m in
-      stat_kind_alike (level.LocalFunction x f.0) (level.LocalFunction x numbered_f.0) m
-      (views.rolls-LocalFunction x numbered_f.0) (λ d. s.stat_kind (level.LocalFunction x (f.1 m d)))
+      stat_kind_alike s (level.LocalFunction x f.0) (level.LocalFunction x numbered_f.0) m
+      (views.rolls-LocalFunction x numbered_f.0)
+      (λ d. s.stat_kind (level.LocalFunction x (f.1 m d)))
   stat_kind_step (level.Return es) m =
       let numbered_es = number_exprs es m in
-      stat_kind_alike (level.Return (bare es)) (level.Return numbered_es.0) m
-      (views.rolls-Return numbered_es.0) (λ d. s.stat_kind (level.Return (exprs_keep es m d)))
-  stat_kind_step level.Break m = stat_kind_alike level.Break level.Break m views.rolls-Break refl
-  stat_kind_step level.Continue m = stat_kind_alike level.Continue level.Continue m views.rolls-Continue refl
+      stat_kind_alike s (level.Return (bare es)) (level.Return numbered_es.0) m
+      (views.rolls-Return numbered_es.0)
+      (λ d. s.stat_kind (level.Return (exprs_keep es m d)))
+  stat_kind_step level.Break m = stat_kind_alike s level.Break level.Break m views.rolls-Break refl
+  stat_kind_step level.Continue m = stat_kind_alike s level.Continue level.Continue m views.rolls-Continue refl
 
   arm_step : (y : induction.arm_with kind_keeps field_kind_keeps stat_kind_keeps arm_keeps expr_keeps expr_arm_keeps field_keeps func_keeps stat_keeps) →
       arm_keeps (induction.arm_of kind_keeps field_kind_keeps stat_kind_keeps arm_keeps expr_keeps expr_arm_keeps field_keeps func_keeps stat_keeps y)
   arm_step y m =
       let cond = number_expr y.cond.0 m in
       let body = number_stats y.body cond.1 in
-      arm_alike (record { cond = y.cond.0; body = bare y.body }) (record { cond = cond.0; body = body.0 }) m refl
+      arm_alike s (record { cond = y.cond.0; body = bare y.body }) (record { cond = cond.0; body = body.0 }) m refl
       (λ d. s.arm (record { cond = y.cond.1 m d; body = stats_keep y.body cond.1 d }))
 
   expr_step : (y : induction.expr_with kind_keeps field_kind_keeps stat_kind_keeps arm_keeps expr_keeps expr_arm_keeps field_keeps func_keeps stat_keeps) →
       expr_keeps (induction.expr_of kind_keeps field_kind_keeps stat_kind_keeps arm_keeps expr_keeps expr_arm_keeps field_keeps func_keeps stat_keeps y)
   expr_step y m =
       let kind = number_kind y.kind.0 (m + 1) in
-      expr_alike (record { id = y.id; at = y.at; line = y.line; kind = y.kind.0 })
+      expr_alike s (record { id = y.id; at = y.at; line = y.line; kind = y.kind.0 })
       (record { id = m; at = y.at; line = y.line; kind = kind.0 }) m refl
       ((λ d. s.expr (record { id = m; at = y.at; line = y.line; kind = y.kind.1 (m + 1) d }))
       ∙ ignores.expr (record { id = y.id; at = y.at; line = y.line; kind = at_kind s y.kind.0 }) m)
 
-  expr_arm_step : (y : induction.expr_arm_with kind_keeps field_kind_keeps stat_kind_keeps arm_keeps expr_keeps expr_arm_keeps field_keeps func_keeps stat_keeps) →
+  expr_arm_step : (y : induction.expr_arm_with kind_keeps field_kind_keeps stat_kind_keeps arm_keeps expr_keeps
+      expr_arm_keeps field_keeps func_keeps stat_keeps) →
       expr_arm_keeps (induction.expr_arm_of kind_keeps field_kind_keeps stat_kind_keeps arm_keeps expr_keeps expr_arm_keeps field_keeps func_keeps stat_keeps y)
   expr_arm_step y m =
       let cond = number_expr y.cond.0 m in
       let value = number_expr y.value.0 cond.1 in
-      expr_arm_alike (record { cond = y.cond.0; value = y.value.0 }) (record { cond = cond.0; value = value.0 }) m refl
+      expr_arm_alike s (record { cond = y.cond.0; value = y.value.0 }) (record { cond = cond.0; value = value.0 }) m refl
       (λ d. s.expr_arm (record { cond = y.cond.1 m d; value = y.value.1 cond.1 d }))
 
   field_step : (y : induction.field_with kind_keeps field_kind_keeps stat_kind_keeps arm_keeps expr_keeps expr_arm_keeps field_keeps func_keeps stat_keeps) →
       field_keeps (induction.field_of kind_keeps field_kind_keeps stat_kind_keeps arm_keeps expr_keeps expr_arm_keeps field_keeps func_keeps stat_keeps y)
   field_step y m =
-      field_alike (record { at = y.at; kind = y.kind.0 }) (record { at = y.at; kind = (number_field_kind y.kind.0 m).0 }) m refl
+      field_alike s (record { at = y.at; kind = y.kind.0 }) (record { at = y.at; kind = (number_field_kind y.kind.0 m).0 }) m refl
       (λ d. s.field (record { at = y.at; kind = y.kind.1 m d }))
 
   func_step : (y : induction.func_with kind_keeps field_kind_keeps stat_kind_keeps arm_keeps expr_keeps expr_arm_keeps field_keeps func_keeps stat_keeps) →
       func_keeps (induction.func_of kind_keeps field_kind_keeps stat_kind_keeps arm_keeps expr_keeps expr_arm_keeps field_keeps func_keeps stat_keeps y)
   func_step y m =
-      func_alike (record { id = y.id; at = y.at; line = y.line; params = y.params; vararg = y.vararg; body = bare y.body })
+      func_alike s (record { id = y.id; at = y.at; line = y.line; params = y.params; vararg = y.vararg; body = bare y.body })
       (record { id = m; at = y.at; line = y.line; params = y.params; vararg = y.vararg; body = (number_stats y.body (m + 1)).0 }) m refl
       ((λ d. s.func (record { id = m; at = y.at; line = y.line; params = y.params; vararg = y.vararg; body = stats_keep y.body (m + 1) d }))
       ∙ ignores.func (record { id = y.id; at = y.at; line = y.line; params = y.params; vararg = y.vararg; body = map (at_stat s) (bare y.body) }) m)
@@ -393,7 +304,7 @@ module _ {K L M A E X F B S : Type 0} (s : Steps K L M A E X F B S) (ignores : I
   stat_step : (y : induction.stat_with kind_keeps field_kind_keeps stat_kind_keeps arm_keeps expr_keeps expr_arm_keeps field_keeps func_keeps stat_keeps) →
       stat_keeps (induction.stat_of kind_keeps field_kind_keeps stat_kind_keeps arm_keeps expr_keeps expr_arm_keeps field_keeps func_keeps stat_keeps y)
   stat_step y m =
-      stat_alike (record { id = y.id; at = y.at; line = y.line; kind = y.kind.0 })
+      stat_alike s (record { id = y.id; at = y.at; line = y.line; kind = y.kind.0 })
       (record { id = m; at = y.at; line = y.line; kind = (number_stat_kind y.kind.0 (m + 1)).0 }) m refl
       ((λ d. s.stat (record { id = m; at = y.at; line = y.line; kind = y.kind.1 (m + 1) d }))
       ∙ ignores.stat (record { id = y.id; at = y.at; line = y.line; kind = at_stat_kind s y.kind.0 }) m)

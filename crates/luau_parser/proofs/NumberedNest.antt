@@ -3,7 +3,8 @@ use Rattle.std.proofs.Common.{◌≡◌, ℕ, refl}
 use Rattle.syntax_tree.specs.declared.tree.FuncBody.{FuncBody}
 use Rattle.syntax_tree.specs.Nest.{steps, nest, nest_func}
 use Rattle.syntax_tree.specs.Numbers.{numbered, numbered_func}
-use Rattle.luau_parser.proofs.NumberedFolds.{IgnoresNumbers, numbered_gives}
+use Rattle.luau_parser.proofs.NumberedFolds.{numbered_gives}
+use Rattle.luau_parser.proofs.NumberedLevels.{IgnoresNumbers}
 
 nest_ignores : IgnoresNumbers steps
 nest_ignores = record { expr = λ e n. refl; func = λ f n. refl; stat = λ t n. refl }

@@ -1,192 +1,29 @@
 -- Each tree that derives is proper.
-use Rattle.std.proofs.Common.{◌≡◌, ℕ, suc, ◌+◌, nat_eq, Bool, true, ◌&&◌, IsTrue, List, [], ◌∷◌, ◌++◌, length, map, Option, Some, None, refl, sym, ap, subst, ◌∙◌, arith}
-use Rattle.std.proofs.lemmas.Bool.{eq-eqb}
+use Rattle.std.proofs.Common.{◌≡◌, ℕ, suc, ◌+◌, Bool, IsTrue, List, [], ◌∷◌, ◌++◌, length, map, Option, Some, None, refl, sym, ap, subst, ◌∙◌}
 use Rattle.byte_text.specs.declared.StrId.{StrId}
 use Rattle.syntax_tree.specs.declared.token.Token.{Token}
-use Rattle.syntax_tree.specs.declared.token.TokenKind.{TokenKind}
-use Rattle.syntax_tree.specs.declared.token.TokenKind.TheVariants as token
 use Rattle.syntax_tree.specs.declared.tree.Arm.{Arm}
-use Rattle.syntax_tree.specs.declared.tree.BinOp.{BinOp}
 use Rattle.syntax_tree.specs.declared.tree.Expr.{Expr}
 use Rattle.syntax_tree.specs.declared.tree.ExprArm.{ExprArm}
-use Rattle.syntax_tree.specs.declared.tree.ExprKind.{ExprKind, roll-ExprKind}
 use Rattle.syntax_tree.specs.declared.tree.ExprKind as expr
 use Rattle.syntax_tree.specs.declared.tree.ExprKind.TheOpen as level
 use Rattle.syntax_tree.specs.declared.tree.ExprKind.TheViews as views
 use Rattle.syntax_tree.specs.declared.tree.Field.{Field}
-use Rattle.syntax_tree.specs.declared.tree.FieldKind.{roll-FieldKind}
 use Rattle.syntax_tree.specs.declared.tree.FieldKind as field
-use Rattle.syntax_tree.specs.declared.tree.FuncBody.{FuncBody}
 use Rattle.syntax_tree.specs.declared.tree.Stat.{Stat}
-use Rattle.syntax_tree.specs.declared.tree.StatKind.{roll-StatKind}
 use Rattle.syntax_tree.specs.declared.tree.StatKind as stat
-use Rattle.syntax_tree.specs.declared.tree.Tree.{Tree}
-use Rattle.syntax_tree.specs.Derivations.{IsChunk, Derives, TreesAreProper, main_function}
-use Rattle.syntax_tree.specs.Nodes.{expr_at, call_at, field_at, stat_at, function_at, arm, expr_arm}
-use Rattle.syntax_tree.specs.Numbers.{numbered, numbered_func}
-use Rattle.syntax_tree.specs.Operators.{OperatorLevel, ors, ands, comparisons, sums, products, operator, compound_operator}
+use Rattle.syntax_tree.specs.Derivations.{IsChunk, TreesAreProper, main_function}
+use Rattle.syntax_tree.specs.Nodes.{expr_at, call_at, field_at, stat_at, function_at}
+use Rattle.syntax_tree.specs.Numbers.{numbered}
+use Rattle.syntax_tree.specs.Operators.{OperatorLevel}
 use Rattle.syntax_tree.specs.Places.{kind_at}
-use Rattle.syntax_tree.specs.Proper.{Form, a_value, a_call, a_target, all, all_proper, all_targets, has_one, maybe_proper, maybe_all, stands_between, computes, kind_form, field_kind_proper, stat_kind_proper, steps, form_expr, proper_stat, proper_func, proper_arm, proper_expr_arm, proper_field, IsProper}
-use Rattle.syntax_tree.specs.Words.{literal_of}
-use Rattle.syntax_tree.specs.Grammar.{last_bind, more_binds, PrefixEnd, in_target, in_call, in_paren, IsBinds, IsMembers, IsFunctionName, no_member, more_members, function_name, method_name, IsExpr, IsList, IsLevel, IsOperations, IsOperand, IsConcat, IsRun, IsUnary, IsPow, IsCast, IsSimple, IsPieces, IsChoices, IsPrefix, IsSuffixes, IsArgs, IsTable, IsFields, IsField, IsBody, IsBlock, IsLast, IsStat, IsTargets, IsStep, IsArms, expression, last_expr, more_exprs, level, no_operation, operation, or_operand, and_operand, comparison_operand, sum_operand, product_operand, no_concat, concat, last_of_run, more_of_run, no_unary, unary, no_pow, pow, no_cast, cast, literal, interp, function, constructor, prefix, choice, last_piece, more_pieces, last_choice, more_choices, name, paren, no_suffix, member, index, call, method, no_args, args, table_arg, text_arg, table, no_field, last_field, more_fields, keyed, named, item, body, no_stat, typing_stat, more_stats, last_stat, bare_return, return, break, continue, assign, compound, call_stat, do_stat, while_stat, repeat_stat, if_stat, num_for, gen_for, function_stat, local_function, bare_local, local, last_target, more_targets, no_step, step, last_arm, else_arm, more_arms}
-use Rattle.luau_parser.proofs.NumberedFolds.{IgnoresNumbers, numbered_gives}
-use Rattle.luau_parser.proofs.TreeLevels as levels
-use Rattle.luau_parser.proofs.TreeLevels.{ExprKindNode, FieldKindNode, StatKindNode}
-
--- ---- nodes by their parts
-
-form_is : (e : Expr) (x : ExprKindNode) → roll-ExprKind x ≡ e.kind → form_expr e ≡ kind_form (levels.kind_level steps x)
-form_is e x h =
-    levels.expr_is steps (record { id = e.id; at = e.at; line = e.line; kind = e.kind }) ∙ ap (levels.at_kind steps) (sym h) ∙ levels.kind_is steps x
-
--- what holds of an expression's form, by its kind
-form_has : (P : Form → Type 0) (e : Expr) (x : ExprKindNode) → roll-ExprKind x ≡ e.kind → P (kind_form (levels.kind_level steps x)) → P (form_expr e)
-form_has P e x h p = subst P (sym (form_is e x h)) p
-
-field_is : (f : Field) (x : FieldKindNode) → roll-FieldKind x ≡ f.kind → IsTrue (field_kind_proper (levels.field_kind_level steps x)) → IsTrue (proper_field f)
-field_is f x h p =
-    levels.field_is steps (record { at = f.at; kind = f.kind }) ∙ ap (levels.at_field_kind steps) (sym h) ∙ levels.field_kind_is steps x ∙ p
-
-stat_is : (t : Stat) (x : StatKindNode) → roll-StatKind x ≡ t.kind → IsTrue (stat_kind_proper (levels.stat_kind_level steps x)) → IsTrue (proper_stat t)
-stat_is t x h p =
-    levels.stat_is steps (record { id = t.id; at = t.at; line = t.line; kind = t.kind }) ∙ ap (levels.at_stat_kind steps) (sym h)
-    ∙ levels.stat_kind_is steps x ∙ p
-
-arm_is : (c : Expr) (block : List Stat) → proper_arm (arm c block) ≡ (form_expr c).proper && all (map proper_stat block)
-arm_is c block = levels.arm_is steps (record { cond = c; body = block })
-
-expr_arm_is : (c v : Expr) → proper_expr_arm (expr_arm c v) ≡ (form_expr c).proper && (form_expr v).proper
-expr_arm_is c v = levels.expr_arm_is steps (record { cond = c; value = v })
-
-function_is : (ts : List Token) (i : ℕ) (xs : List StrId) (v : Bool) (block : List Stat) → proper_func (function_at ts i xs v block) ≡ all (map proper_stat block)
-function_is ts i xs v block = levels.func_is steps _
-
-main_is : (block : List Stat) → proper_func (main_function block) ≡ all (map proper_stat block)
-main_is block = levels.func_is steps _
-
--- ---- what is to be proved of each part
-
-abbrev proper : Form → Type 0
-proper f = IsTrue f.proper
-
-abbrev Proper : Expr → Type 0
-Proper e = proper (form_expr e)
-
-abbrev AllProper : List Expr → Type 0
-AllProper es = IsTrue (all_proper (map form_expr es))
-
-abbrev ProperBlock : List Stat → Type 0
-ProperBlock block = IsTrue (all (map proper_stat block))
-
-abbrev ProperStep : Option Expr → Type 0
-ProperStep None = IsTrue true
-ProperStep (Some e) = Proper e
-
-abbrev ProperOther : Option (List Stat) → Type 0
-ProperOther None = IsTrue true
-ProperOther (Some block) = ProperBlock block
-
--- an expression that can be assigned to, a call, or any
-abbrev ends_as : PrefixEnd → Form → Bool
-ends_as in_target f = f.target
-ends_as in_call f = f.calls
-ends_as in_paren f = true
-
-abbrev EndsAs : PrefixEnd → Form → Type 0
-EndsAs d f = IsTrue f.proper × IsTrue (ends_as d f)
-
-both : {a b : Bool} → IsTrue a → IsTrue b → IsTrue (a && b)
-both g h = λ d. g d && h d
-
--- ---- operators and literals
-
-abbrev between : Option BinOp → Bool
-between None = true
-between (Some op) = stands_between op
-
-level_between : (l : OperatorLevel) (t : Option TokenKind) → IsTrue (between (operator l t))
-level_between ors (Some token.Or) = refl
-level_between ands (Some token.And) = refl
-level_between comparisons (Some token.Less) = refl
-level_between comparisons (Some token.Greater) = refl
-level_between comparisons (Some token.LessEqual) = refl
-level_between comparisons (Some token.GreaterEqual) = refl
-level_between comparisons (Some token.NotEqual) = refl
-level_between comparisons (Some token.EqualEqual) = refl
-level_between sums (Some token.Plus) = refl
-level_between sums (Some token.Minus) = refl
-level_between products (Some token.Star) = refl
-level_between products (Some token.Slash) = refl
-level_between products (Some token.DoubleSlash) = refl
-level_between products (Some token.Percent) = refl
-level_between _ _ = refl
-
-abbrev computing : Option BinOp → Bool
-computing None = true
-computing (Some op) = computes op
-
-compound_computes : (t : Option TokenKind) → IsTrue (computing (compound_operator t))
-compound_computes (Some token.PlusEqual) = refl
-compound_computes (Some token.MinusEqual) = refl
-compound_computes (Some token.StarEqual) = refl
-compound_computes (Some token.SlashEqual) = refl
-compound_computes (Some token.DoubleSlashEqual) = refl
-compound_computes (Some token.PercentEqual) = refl
-compound_computes (Some token.CaretEqual) = refl
-compound_computes (Some token.DoubleDotEqual) = refl
-compound_computes _ = refl
-
-abbrev ProperKind : List Token → ℕ → Option ExprKind → Type 0
-ProperKind ts i None = Unit {0}
-ProperKind ts i (Some k) = Proper (expr_at ts i k)
-
-proper_literal : (ts : List Token) (i : ℕ) (t : Option TokenKind) → ProperKind ts i (literal_of t)
-proper_literal ts i (Some token.Nil) = form_has proper (expr_at ts i expr.Nil) level.Nil views.rolls-Nil refl
-proper_literal ts i (Some token.True) = form_has proper (expr_at ts i expr.True) level.True views.rolls-True refl
-proper_literal ts i (Some token.False) = form_has proper (expr_at ts i expr.False) level.False views.rolls-False refl
-proper_literal ts i (Some (token.Number n)) = form_has proper (expr_at ts i (expr.Num n)) (level.Num n) (views.rolls-Num n) refl
-proper_literal ts i (Some (token.Str x)) = form_has proper (expr_at ts i (expr.Str x)) (level.Str x) (views.rolls-Str x) refl
-proper_literal ts i (Some token.TripleDot) = form_has proper (expr_at ts i expr.Vararg) level.Vararg views.rolls-Vararg refl
-proper_literal ts i (Some (token.InterpWhole x)) =
-    form_has proper (expr_at ts i (expr.Interp (x ∷ []) [])) (level.Interp (x ∷ []) []) (views.rolls-Interp (x ∷ []) []) refl
-proper_literal ts i _ = tt
-
--- ---- names
-
-name_has : (ts : List Token) (i : ℕ) (x : StrId) → EndsAs in_target (form_expr (expr_at ts i (expr.Name x)))
-name_has ts i x = form_has (EndsAs in_target) (expr_at ts i (expr.Name x)) (level.Name x) (views.rolls-Name x) (refl, refl)
-
-member_has : (ts : List Token) (i : ℕ) (a : Expr) (x : StrId) → Proper a → EndsAs in_target (form_expr (expr_at ts i (expr.Member a x)))
-member_has ts i a x p = form_has (EndsAs in_target) (expr_at ts i (expr.Member a x)) (level.Member a x) (views.rolls-Member a x) (p, refl)
-
-binds_one : {ts : List Token} {n i j : ℕ} {xs : List StrId} → IsBinds ts n i xs j → IsTrue (has_one xs)
-binds_one (last_bind i j x b h) = refl
-binds_one (more_binds i j k x xs b h r) = refl
-
-members_end : {ts : List Token} {b i j : ℕ} {a e : Expr} → IsMembers ts b i a e j → EndsAs in_target (form_expr a) → EndsAs in_target (form_expr e)
-members_end (no_member i a h) p = p
-members_end {ts = ts} {b = b} (more_members i j x a e h g r) p = members_end r (member_has ts b a x p.0)
-
-function_name_ends : {ts : List Token} {i j : ℕ} {e : Expr} {added : List StrId} → IsFunctionName ts i e added j → EndsAs in_target (form_expr e)
-function_name_ends {ts = ts} (function_name i j x e h m g) = members_end m (name_has ts i x)
-function_name_ends {ts = ts} (method_name i j x y e h m g k) = member_has ts i e y (members_end m (name_has ts i x)).0
+use Rattle.syntax_tree.specs.Proper.{all, all_targets, has_one, steps, form_expr, proper_stat, proper_arm, proper_expr_arm, proper_field, IsProper}
+use Rattle.syntax_tree.specs.Grammar.{PrefixEnd, in_target, in_call, in_paren, IsExpr, IsList, IsLevel, IsOperations, IsOperand, IsConcat, IsRun, IsUnary, IsPow, IsCast, IsSimple, IsPieces, IsChoices, IsPrefix, IsSuffixes, IsArgs, IsTable, IsFields, IsField, IsBody, IsBlock, IsLast, IsStat, IsTargets, IsStep, IsArms, expression, last_expr, more_exprs, level, no_operation, operation, or_operand, and_operand, comparison_operand, sum_operand, product_operand, no_concat, concat, last_of_run, more_of_run, no_unary, unary, no_pow, pow, no_cast, cast, literal, interp, function, constructor, prefix, choice, last_piece, more_pieces, last_choice, more_choices, name, paren, no_suffix, member, index, call, method, no_args, args, table_arg, text_arg, table, no_field, last_field, more_fields, keyed, named, item, body, no_stat, typing_stat, more_stats, last_stat, bare_return, return, break, continue, assign, compound, call_stat, do_stat, while_stat, repeat_stat, if_stat, num_for, gen_for, function_stat, local_function, bare_local, local, last_target, more_targets, no_step, step, last_arm, else_arm, more_arms}
+use Rattle.luau_parser.proofs.NumberedFolds.{numbered_gives}
+use Rattle.luau_parser.proofs.NumberedLevels.{IgnoresNumbers}
+use Rattle.luau_parser.proofs.ProperNodes.{form_has, field_is, stat_is, arm_is, expr_arm_is, function_is, main_is, proper, Proper, AllProper, ProperBlock, ProperStep, ProperOther, EndsAs, both, between, level_between, computing, compound_computes, ProperKind, proper_literal, name_has, member_has, binds_one, function_name_ends, binary_proper, function_proper, table_proper, one_more}
 
 -- ---- each part of the grammar
-
-binary_proper : (ts : List Token) (i : ℕ) (op : BinOp) (a c : Expr) → IsTrue (stands_between op) → Proper a → Proper c → Proper (expr_at ts i (expr.Binary op a c))
-binary_proper ts i op a c so p q =
-    form_has proper (expr_at ts i (expr.Binary op a c)) (level.Binary op a c) (views.rolls-Binary op a c) (both (both so p) q)
-
-one_more : (m n : ℕ) → m ≡ n → IsTrue (nat_eq (suc m) (n + 1))
-one_more m n e = eq-eqb (suc m) (n + 1) (omega (arith, e))
-
-function_proper : (ts : List Token) (i j : ℕ) (xs : List StrId) (v : Bool) (block : List Stat) → ProperBlock block → Proper (expr_at ts i (expr.Function (function_at ts j xs v block)))
-function_proper ts i j xs v block p =
-    form_has proper (expr_at ts i (expr.Function (function_at ts j xs v block))) (level.Function (function_at ts j xs v block))
-    (views.rolls-Function (function_at ts j xs v block)) (function_is ts j xs v block ∙ p)
-
-table_proper : (ts : List Token) (i : ℕ) (fs : List Field) → IsTrue (all (map proper_field fs)) → Proper (expr_at ts i (expr.Table fs))
-table_proper ts i fs p = form_has proper (expr_at ts i (expr.Table fs)) (level.Table fs) (views.rolls-Table fs) p
 
 mutual
   expr_proper : {ts : List Token} {n i j : ℕ} {e : Expr} → IsExpr ts n i e j → Proper e
@@ -249,11 +86,13 @@ mutual
       form_has proper (expr_at ts i (expr.If arms other)) (level.ExprKind::If arms other) (views.rolls-ExprKind::If arms other)
       (both (both more.1 more.0.0) more.0.1)
 
-  pieces_proper : {ts : List Token} {n i j : ℕ} {xs : List StrId} {es : List Expr} → IsPieces ts n i xs es j → AllProper es × (length xs ≡ length (map form_expr es))
+  pieces_proper : {ts : List Token} {n i j : ℕ} {xs : List StrId} {es : List Expr} → IsPieces ts n i xs es j →
+      AllProper es × (length xs ≡ length (map form_expr es))
   pieces_proper (last_piece i j x e a h) = (both (expr_proper a) refl, refl)
   pieces_proper (more_pieces i j k x xs e es a h r) = (both (expr_proper a) (pieces_proper r).0, ap suc (pieces_proper r).1)
 
-  choices_proper : {ts : List Token} {n i j : ℕ} {arms : List ExprArm} {other : Expr} → IsChoices ts n i arms other j → (IsTrue (all (map proper_expr_arm arms)) × Proper other) × IsTrue (has_one (map proper_expr_arm arms))
+  choices_proper : {ts : List Token} {n i j : ℕ} {arms : List ExprArm} {other : Expr} → IsChoices ts n i arms other j →
+      (IsTrue (all (map proper_expr_arm arms)) × Proper other) × IsTrue (has_one (map proper_expr_arm arms))
   choices_proper (last_choice i j k l c v o a h b g r) = ((both (expr_arm_is c v ∙ both (expr_proper a) (expr_proper b)) refl, expr_proper r), refl)
   choices_proper (more_choices i j k l c v o arms a h b g r) =
       let more = choices_proper r in
@@ -264,15 +103,22 @@ mutual
   prefix_ends {ts = ts} (paren i j k a e d h x c s) =
       suffixes_end s (form_has (EndsAs in_paren) (expr_at ts i (expr.Paren a)) (level.Paren a) (views.rolls-Paren a) (expr_proper x, refl))
 
-  suffixes_end : {ts : List Token} {n b i j : ℕ} {a e : Expr} {c d : PrefixEnd} → IsSuffixes ts n b i a c e d j → EndsAs c (form_expr a) → EndsAs d (form_expr e)
+  suffixes_end : {ts : List Token} {n b i j : ℕ} {a e : Expr} {c d : PrefixEnd} → IsSuffixes ts n b i a c e d j → EndsAs c (form_expr a) →
+      EndsAs d (form_expr e)
   suffixes_end (no_suffix b i a c h) p = p
   suffixes_end {ts = ts} (member b i j x a e c d h g s) p = suffixes_end s (member_has ts b a x p.0)
   suffixes_end {ts = ts} (index b i j k a key e c d h x g s) p =
-      suffixes_end s (form_has (EndsAs in_target) (expr_at ts b (expr.Index a key)) (level.Index a key) (views.rolls-Index a key) (both p.0 (expr_proper x), refl))
+      suffixes_end s
+      (form_has (EndsAs in_target) (expr_at ts b (expr.Index a key)) (level.Index a key) (views.rolls-Index a key)
+      (both p.0 (expr_proper x), refl))
   suffixes_end {ts = ts} (call b i j k es a e c d x s) p =
-      suffixes_end s (form_has (EndsAs in_call) (call_at ts b i (expr.Call a es)) (level.ExprKind::Call a es) (views.rolls-ExprKind::Call a es) (both p.0 (args_proper x), refl))
+      suffixes_end s
+      (form_has (EndsAs in_call) (call_at ts b i (expr.Call a es)) (level.ExprKind::Call a es) (views.rolls-ExprKind::Call a es)
+      (both p.0 (args_proper x), refl))
   suffixes_end {ts = ts} (method b i j k x es a e c d h g y s) p =
-      suffixes_end s (form_has (EndsAs in_call) (call_at ts b (i + 2) (expr.Method a x es)) (level.Method a x es) (views.rolls-Method a x es) (both p.0 (args_proper y), refl))
+      suffixes_end s
+      (form_has (EndsAs in_call) (call_at ts b (i + 2) (expr.Method a x es)) (level.Method a x es) (views.rolls-Method a x es)
+      (both p.0 (args_proper y), refl))
 
   args_proper : {ts : List Token} {n i j : ℕ} {es : List Expr} → IsArgs ts n i es j → AllProper es
   args_proper (no_args i h g) = refl
@@ -359,7 +205,8 @@ mutual
   stat_proper {ts = ts} (local i j k xs es h y g x) =
       stat_is (stat_at ts i (stat.Local xs es)) (level.Local xs es) (views.rolls-Local xs es) (both (binds_one y) (list_proper x).0)
 
-  targets_end : {ts : List Token} {n i j : ℕ} {es : List Expr} → IsTargets ts n i es j → AllProper es × IsTrue (all_targets (map form_expr es)) × IsTrue (has_one (map form_expr es))
+  targets_end : {ts : List Token} {n i j : ℕ} {es : List Expr} → IsTargets ts n i es j →
+      AllProper es × IsTrue (all_targets (map form_expr es)) × IsTrue (has_one (map form_expr es))
   targets_end (last_target i j e x h) = let p = prefix_ends x in (both p.0 refl, both p.1 refl, refl)
   targets_end (more_targets i j k e es x h r) =
       let p = prefix_ends x in
@@ -370,7 +217,8 @@ mutual
   step_proper (no_step i h) = refl
   step_proper (step i j e h x) = expr_proper x
 
-  arms_proper : {ts : List Token} {n i j : ℕ} {arms : List Arm} {other : Option (List Stat)} → IsArms ts n i arms other j → IsTrue (all (map proper_arm arms)) × ProperOther other × IsTrue (has_one (map proper_arm arms))
+  arms_proper : {ts : List Token} {n i j : ℕ} {arms : List Arm} {other : Option (List Stat)} → IsArms ts n i arms other j →
+      IsTrue (all (map proper_arm arms)) × ProperOther other × IsTrue (has_one (map proper_arm arms))
   arms_proper (last_arm i j k c b x h y e) = (both (arm_is c b ∙ both (expr_proper x) (block_proper y)) refl, refl, refl)
   arms_proper (else_arm i j k l c b o x h y g z e) = (both (arm_is c b ∙ both (expr_proper x) (block_proper y)) refl, block_proper z, refl)
   arms_proper (more_arms i j k l c b arms other x h y g r) =

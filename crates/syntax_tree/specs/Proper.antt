@@ -125,7 +125,17 @@ stat_kind_proper level.Break = true
 stat_kind_proper level.Continue = true
 
 abbrev pub steps : Steps Form Bool Bool Bool Form Bool Bool Bool Bool
-steps = record { kind = kind_form; field_kind = field_kind_proper; stat_kind = stat_kind_proper; arm = λ a. a.cond.proper && all a.body; expr = λ e. e.kind; expr_arm = λ a. a.cond.proper && a.value.proper; field = λ f. f.kind; func = λ f. all f.body; stat = λ s. s.kind }
+steps = record {
+  kind = kind_form;
+  field_kind = field_kind_proper;
+  stat_kind = stat_kind_proper;
+  arm = λ a. a.cond.proper && all a.body;
+  expr = λ e. e.kind;
+  expr_arm = λ a. a.cond.proper && a.value.proper;
+  field = λ f. f.kind;
+  func = λ f. all f.body;
+  stat = λ s. s.kind;
+}
 
 abbrev pub form_expr : Expr → Form
 form_expr = at_expr steps
