@@ -35,7 +35,7 @@ pub fn read_script(alloc: Global, source: &[u8]) -> Result<Reading, OutOfMemory>
         Ok(tokens) => tokens,
         Err(error) => return refused(lexical(error)),
     };
-    let tree = match parse(alloc, tokens.as_slice()) {
+    let tree = match parse(alloc, tokens.as_slice(), &mut names) {
         Ok(tree) => tree,
         Err(error) => return refused(syntactic(error)),
     };

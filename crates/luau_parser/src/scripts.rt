@@ -11,6 +11,7 @@ ghost use Rattle.luau_parser.specs.declared.error.ParseErr.TheVariants as refusa
 
 use crate::error::ParseErr;
 use crate::reading::nested;
+use byte_text::Interner;
 use expression_parser::{Block, Fault, Found, Wanted};
 use node_numbers::number;
 use sqlite_items::Items;
@@ -20,9 +21,12 @@ use syntax_tree::{FuncBody, Token, Tree};
 // How many nodes may nest.
 const MOST_NESTED: usize = 200;
 
-/// The tree of a script's tokens, with its nodes numbered. It needs no interner: the words that the grammar knows by their names have the
-/// same numbers in each.
-pub fn parse(alloc: Global, tokens: &[Token]) -> Result<Tree, ParseErr>
+/// The tree of a script's tokens, with its nodes numbered.
+///
+/// The interner is that of the tokens' texts. It is left as it was: the words that the grammar knows by their names have the same
+/// numbers in each.
+pub fn parse(alloc: Global, tokens: &[Token], names: &mut Interner) -> Result<Tree, ParseErr>
+    ensures names { names.new ≡ names.old }
     // The tree derives from the tokens, nests at most 200 deep, and no call is ambiguous.
     ensures tree { IfOk result (IsParsed tokens.now) }
     // Calls are calls, what is assigned to can be assigned to, and operators fit where they stand.
