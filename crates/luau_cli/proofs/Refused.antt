@@ -13,6 +13,7 @@ use Rattle.luau_lexer.proofs.OneTokenList.{one_list, tokens_or_fault}
 use Rattle.luau_parser.specs.declared.error.ParseErr.{ParseErr}
 use Rattle.luau_parser.specs.declared.error.ParseErr.TheVariants as parse
 use Rattle.luau_parser.specs.Parsed.{IsShallow, IsParsed, IsRefusal}
+use Rattle.luau_parser.proofs.Refusing.{without_tree}
 use Rattle.luau_parser.proofs.OneTree.{same_block}
 use Rattle.emit_stat.specs.Unbuilt.{first_unbuilt}
 use Rattle.luau_cli.specs.Refusals.{Cause, syntactic, statements, IsScript, IsRefused, no_tokens, no_tree, breaks_rule, unbuilt}
@@ -28,7 +29,7 @@ one_tree ts a b p q =
 
 -- tokens with a tree are not refused
 parsed_or_refused : (ts : List Token) (tree : Tree) (error : ParseErr) (c : Cause) → IsParsed ts tree → IsRefusal ts error → syntactic error ≡ Some c → ⊥
-parsed_or_refused ts tree (parse.Unexpected at) c p r e = r.no_tree tree (derives ts tree p.0)
+parsed_or_refused ts tree (parse.Unexpected at) c p r e = without_tree ts at r tree (derives ts tree p.0)
 parsed_or_refused ts tree (parse.TooDeep at) c p r e = r.none ts tree refl p.0
 parsed_or_refused ts tree (parse.AmbiguousCall at) c p r e = p.1 r.place r.call
 parsed_or_refused ts tree parse.OutOfMemory c p r e = none-some c e

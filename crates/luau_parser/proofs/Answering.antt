@@ -14,6 +14,7 @@ use Rattle.luau_parser.specs.declared.error.ParseErr.TheVariants as refusal
 use Rattle.luau_parser.specs.Parsed.{IsShallow, IsParsed, IsRefusal, Answers}
 use Rattle.luau_parser.proofs.OneTree.{same_block}
 use Rattle.luau_parser.proofs.ProperTrees.{trees_are_proper}
+use Rattle.luau_parser.proofs.Refusing.{without_tree}
 
 shallow_derives : {ts : List Token} {tree : Tree} → IsShallow ts tree → Derives ts tree
 shallow_derives s = record { brackets = most; block = s.block; derived = s.derived; numbers = s.numbers }
@@ -29,7 +30,7 @@ same_tree a b =
 
 pub finds_tree : (ts : List Token) (tree : Tree) → IsParsed ts tree → (r : Result Tree ParseErr) → IfOk r (IsParsed ts) → IfErr r (IsRefusal ts) → Answers (Ok tree) r
 finds_tree ts tree p (Ok other) good bad = inl (ap Ok (same_tree good.0 p.0))
-finds_tree ts tree p (Err (refusal.Unexpected at)) good bad = absurd (bad.no_tree tree (shallow_derives p.0))
+finds_tree ts tree p (Err (refusal.Unexpected at)) good bad = absurd (without_tree ts at bad tree (shallow_derives p.0))
 finds_tree ts tree p (Err (refusal.TooDeep at)) good bad = absurd (bad.none ts tree refl p.0)
 finds_tree ts tree p (Err (refusal.AmbiguousCall at)) good bad = absurd (p.1 bad.place bad.call)
 finds_tree ts tree p (Err refusal.OutOfMemory) good bad = inr refl
@@ -55,7 +56,7 @@ same_offset {ts = ts} a b =
 
 pub finds_ambiguous : (ts : List Token) (tree : Tree) → IsShallow ts tree → (at : ℕ) → Ambiguous ts at → (r : Result Tree ParseErr) → IfOk r (IsParsed ts) → IfErr r (IsRefusal ts) → Answers (Err (refusal.AmbiguousCall at)) r
 finds_ambiguous ts tree s at a (Ok other) good bad = absurd (good.1 a.place a.call)
-finds_ambiguous ts tree s at a (Err (refusal.Unexpected place)) good bad = absurd (bad.no_tree tree (shallow_derives s))
+finds_ambiguous ts tree s at a (Err (refusal.Unexpected place)) good bad = absurd (without_tree ts place bad tree (shallow_derives s))
 finds_ambiguous ts tree s at a (Err (refusal.TooDeep place)) good bad = absurd (bad.none ts tree refl s)
 finds_ambiguous ts tree s at a (Err (refusal.AmbiguousCall place)) good bad = inl (ap (λ x. Err (refusal.AmbiguousCall x)) (same_offset bad a))
 finds_ambiguous ts tree s at a (Err refusal.OutOfMemory) good bad = inr refl
