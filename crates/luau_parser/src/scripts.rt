@@ -86,7 +86,7 @@ fn read(alloc: Global, tokens: &[Token]) -> Result<Block, Fault>
                 Ok(block)
             }
         }
-        Found::Part(_) | Found::Parts(_) => Err(Fault::OutOfMemory),
+        Found::Part(_) | Found::Parts(_) => unreachable!(),
     }
 }
 
