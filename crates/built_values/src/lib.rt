@@ -2,7 +2,9 @@
 #![tactic(auto)]
 
 mod end;
+mod names;
 mod value;
 
 pub use end::End;
+pub use names::fixed_name;
 pub use value::Value;

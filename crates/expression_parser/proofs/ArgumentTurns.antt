@@ -10,7 +10,7 @@ use Rattle.parse_steps.specs.declared.classes.Arguments.{Arguments}
 use Rattle.parse_steps.specs.declared.classes.Arguments.TheVariants as argument
 use Rattle.parse_steps.specs.declared.classes.Suffix.{Suffix}
 use Rattle.parse_steps.specs.declared.classes.Suffix.TheVariants as suffix_class
-use Rattle.parse_steps.specs.declared.words.Word.TheVariants as word
+use Rattle.type_skip.specs.declared.words.Word.TheVariants as word
 use Rattle.parse_steps.specs.Classes as classes
 use Rattle.parse_steps.specs.Items as item
 use Rattle.parse_steps.specs.Items.{Item, PrefixUse, depth}

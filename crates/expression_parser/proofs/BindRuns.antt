@@ -4,13 +4,13 @@ use Rattle.byte_text.specs.declared.StrId.{StrId}
 use Rattle.syntax_tree.specs.declared.token.Token.{Token}
 use Rattle.syntax_tree.specs.Grammar.{IsBind, IsBinds, last_bind, more_binds}
 use Rattle.syntax_tree.specs.Places.{kind_at}
-use Rattle.parse_steps.specs.declared.words.Word.TheVariants as words
+use Rattle.type_skip.specs.declared.words.Word.TheVariants as words
 use Rattle.parse_steps.specs.Items as item
 use Rattle.parse_steps.specs.Items.{Item}
 use Rattle.parse_steps.specs.Turns.{stays, takes}
-use Rattle.parse_steps.specs.Words.{is_word}
+use Rattle.type_skip.specs.Words.{is_word}
 use Rattle.parse_steps.specs.Steps.{most, Leads, here}
-use Rattle.parse_steps.proofs.WordTests.{has, lacks}
+use Rattle.type_skip.proofs.WordTests.{has, lacks}
 use Rattle.expression_parser.specs.declared.fault.Fault.{Fault}
 use Rattle.expression_parser.specs.declared.parts.Bind.{Bind}
 use Rattle.expression_parser.specs.Reading.{FindsBind, FindsBinds}

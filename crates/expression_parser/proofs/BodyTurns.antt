@@ -7,7 +7,7 @@ use Rattle.syntax_tree.specs.declared.tree.Stat.{Stat}
 use Rattle.syntax_tree.specs.Grammar.{IsParamList, IsTyping, IsBlock, IsBody, body}
 use Rattle.syntax_tree.specs.Places.{Has}
 use Rattle.syntax_tree.specs.Types.{IsGenerics}
-use Rattle.parse_steps.specs.declared.words.Word.TheVariants as words
+use Rattle.type_skip.specs.declared.words.Word.TheVariants as words
 use Rattle.parse_steps.specs.Items as item
 use Rattle.parse_steps.specs.Items.{Item, depth}
 use Rattle.parse_steps.specs.Steps.{most, Leads}

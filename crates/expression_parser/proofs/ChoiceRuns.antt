@@ -8,7 +8,7 @@ use Rattle.syntax_tree.specs.declared.tree.ExprArm.{ExprArm}
 use Rattle.syntax_tree.specs.Grammar.{IsChoices, last_choice, more_choices}
 use Rattle.syntax_tree.specs.Grammar as grammar
 use Rattle.syntax_tree.specs.Places.{kind_at, Has, Lacks}
-use Rattle.parse_steps.specs.declared.words.Word.TheVariants as word
+use Rattle.type_skip.specs.declared.words.Word.TheVariants as word
 use Rattle.parse_steps.specs.declared.levels.Level.TheVariants as levels
 use Rattle.parse_steps.specs.declared.levels.Rank.TheVariants as ranks
 use Rattle.parse_steps.specs.Items as item

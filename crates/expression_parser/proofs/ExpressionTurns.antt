@@ -8,7 +8,7 @@ use Rattle.syntax_tree.specs.Places.{kind_at, Has, Lacks}
 use Rattle.parse_steps.specs.declared.levels.Level.{Level}
 use Rattle.parse_steps.specs.declared.levels.Level.TheVariants as levels
 use Rattle.parse_steps.specs.declared.levels.Rank.TheVariants as rank
-use Rattle.parse_steps.specs.declared.words.Word.TheVariants as word
+use Rattle.type_skip.specs.declared.words.Word.TheVariants as word
 use Rattle.parse_steps.specs.Items as item
 use Rattle.parse_steps.specs.Items.{Item, depth, climb}
 use Rattle.parse_steps.specs.Turns.{turn, stays, takes, next_reach, unary_turn}

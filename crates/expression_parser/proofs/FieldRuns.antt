@@ -7,13 +7,13 @@ use Rattle.syntax_tree.specs.declared.tree.Field.{Field}
 use Rattle.syntax_tree.specs.Grammar.{IsFields, no_field, last_field, more_fields}
 use Rattle.syntax_tree.specs.Places.{kind_at}
 use Rattle.syntax_tree.specs.Types.{is_separator}
-use Rattle.parse_steps.specs.declared.words.Word.TheVariants as words
+use Rattle.type_skip.specs.declared.words.Word.TheVariants as words
 use Rattle.parse_steps.specs.Items as item
 use Rattle.parse_steps.specs.Items.{Item, depth}
 use Rattle.parse_steps.specs.Turns.{turn, takes, stops, word_or}
-use Rattle.parse_steps.specs.Words.{is_word}
+use Rattle.type_skip.specs.Words.{is_word}
 use Rattle.parse_steps.specs.Steps.{most, Leads, here}
-use Rattle.parse_steps.proofs.WordTests.{has, lacks}
+use Rattle.type_skip.proofs.WordTests.{has, lacks}
 use Rattle.expression_parser.specs.declared.fault.Fault.{Fault}
 use Rattle.expression_parser.specs.declared.parts.FieldPart.{FieldPart}
 use Rattle.expression_parser.specs.Reading.{FindsField, FindsFields, FindsWord}

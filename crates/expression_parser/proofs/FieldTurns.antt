@@ -14,14 +14,14 @@ use Rattle.syntax_tree.specs.Places.{kind_at, is_name, Has, Lacks}
 use Rattle.syntax_tree.specs.Words.{is_equal, opens_named}
 use Rattle.parse_steps.specs.declared.levels.Level.TheVariants as levels
 use Rattle.parse_steps.specs.declared.levels.Rank.TheVariants as ranks
-use Rattle.parse_steps.specs.declared.words.Word.TheVariants as words
+use Rattle.type_skip.specs.declared.words.Word.TheVariants as words
 use Rattle.parse_steps.specs.Classes.{name_of}
 use Rattle.parse_steps.specs.Items as item
 use Rattle.parse_steps.specs.Items.{Item, in_expression, depth, climb, expression}
 use Rattle.parse_steps.specs.Turns.{turn, stays, takes, word_or, name_turn, named_expression}
-use Rattle.parse_steps.specs.Words.{is_word}
+use Rattle.type_skip.specs.Words.{is_word}
 use Rattle.parse_steps.specs.Steps.{most, Leads}
-use Rattle.parse_steps.proofs.WordTests.{stands_not}
+use Rattle.type_skip.proofs.WordTests.{stands_not}
 use Rattle.expression_parser.specs.declared.fault.Fault.{Fault}
 use Rattle.expression_parser.specs.declared.parts.Part.{Part}
 use Rattle.expression_parser.specs.Reading.{Fails, FindsLevel, FindsWord, FindsField}

@@ -5,14 +5,14 @@ use Rattle.syntax_tree.specs.declared.token.Token.{Token}
 use Rattle.syntax_tree.specs.declared.token.TokenKind.TheVariants as token
 use Rattle.syntax_tree.specs.Grammar.{untyped, typed, bind}
 use Rattle.syntax_tree.specs.Places.{kind_at, Has}
-use Rattle.parse_steps.specs.declared.words.Word.TheVariants as words
+use Rattle.type_skip.specs.declared.words.Word.TheVariants as words
 use Rattle.parse_steps.specs.Classes.{name_of}
 use Rattle.parse_steps.specs.Items as item
 use Rattle.parse_steps.specs.Items.{Item}
 use Rattle.parse_steps.specs.Turns.{turn, stays, takes, stops}
-use Rattle.parse_steps.specs.Words.{is_word}
+use Rattle.type_skip.specs.Words.{is_word}
 use Rattle.parse_steps.specs.Steps.{Leads}
-use Rattle.parse_steps.proofs.WordTests.{has, lacks}
+use Rattle.type_skip.proofs.WordTests.{has, lacks}
 use Rattle.expression_parser.specs.declared.fault.Fault.{Fault}
 use Rattle.expression_parser.specs.Reading.{FindsType, FindsTyping, FindsName, FindsBind}
 use Rattle.expression_parser.proofs.Leading.{then_leads, then_fails, staying, taking}

@@ -4,14 +4,14 @@ use Rattle.byte_text.specs.declared.StrId.{StrId}
 use Rattle.syntax_tree.specs.declared.token.Token.{Token}
 use Rattle.syntax_tree.specs.Grammar.{IsParams, last_param, more_params, dots, no_params, params}
 use Rattle.syntax_tree.specs.Places.{kind_at}
-use Rattle.parse_steps.specs.declared.words.Word.TheVariants as words
+use Rattle.type_skip.specs.declared.words.Word.TheVariants as words
 use Rattle.parse_steps.specs.Classes.{name_of}
 use Rattle.parse_steps.specs.Items as item
 use Rattle.parse_steps.specs.Items.{Item}
 use Rattle.parse_steps.specs.Turns.{turn, takes, stops, word_or, name_turn, parameter_turn}
-use Rattle.parse_steps.specs.Words.{is_word}
+use Rattle.type_skip.specs.Words.{is_word}
 use Rattle.parse_steps.specs.Steps.{most, Leads}
-use Rattle.parse_steps.proofs.WordTests.{has, lacks}
+use Rattle.type_skip.proofs.WordTests.{has, lacks}
 use Rattle.expression_parser.specs.declared.fault.Fault.{Fault}
 use Rattle.expression_parser.specs.declared.parts.Bind.{Bind}
 use Rattle.expression_parser.specs.Reading.{Fails, FindsBind, FindsTyping, FindsWord, FindsParameters}

@@ -7,7 +7,7 @@ use Rattle.syntax_tree.specs.Grammar.{PrefixEnd, in_paren, IsPrefix, IsSuffixes,
 use Rattle.syntax_tree.specs.Places.{kind_at}
 use Rattle.parse_steps.specs.declared.classes.Beginning.TheVariants as begins
 use Rattle.parse_steps.specs.declared.classes.Suffix.{Suffix}
-use Rattle.parse_steps.specs.declared.words.Word.TheVariants as word
+use Rattle.type_skip.specs.declared.words.Word.TheVariants as word
 use Rattle.parse_steps.specs.Classes.{beginning}
 use Rattle.parse_steps.specs.Items as item
 use Rattle.parse_steps.specs.Items.{Item, depth, expression, in_expression}

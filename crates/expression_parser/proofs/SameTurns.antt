@@ -4,8 +4,8 @@ use Rattle.std.proofs.lemmas.Option.{slice_get_within}
 use Rattle.syntax_tree.specs.declared.token.Token.{Token}
 use Rattle.syntax_tree.specs.declared.token.TokenKind.{TokenKind}
 use Rattle.syntax_tree.specs.Places.{kind_at, kind_of, Has}
-use Rattle.parse_steps.specs.declared.words.Word.{Word}
-use Rattle.parse_steps.specs.Words.{is_word}
+use Rattle.type_skip.specs.declared.words.Word.{Word}
+use Rattle.type_skip.specs.Words.{is_word}
 use Rattle.parse_steps.specs.Items.{Item, a_type, suffixes, arguments}
 use Rattle.parse_steps.specs.Turns.{Turn, turn, stays, takes, word_or}
 use Rattle.parse_steps.specs.Steps.{here, stay, take, pass, most, InTime, Allowed, asks, Leads, Reaches, IsStuck, IsDeep, IsLate, no_turn, no_type, deep_node, deep_type}

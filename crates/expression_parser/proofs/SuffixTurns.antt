@@ -9,7 +9,7 @@ use Rattle.syntax_tree.specs.Places.{Has}
 use Rattle.syntax_tree.specs.Words.{opens_suffix}
 use Rattle.parse_steps.specs.declared.classes.Arguments.TheVariants as argument
 use Rattle.parse_steps.specs.declared.classes.Suffix.TheVariants as suffix_class
-use Rattle.parse_steps.specs.declared.words.Word.TheVariants as word
+use Rattle.type_skip.specs.declared.words.Word.TheVariants as word
 use Rattle.parse_steps.specs.Classes.{suffix, arguments}
 use Rattle.parse_steps.specs.Items as item
 use Rattle.parse_steps.specs.Items.{Item, PrefixUse, depth}

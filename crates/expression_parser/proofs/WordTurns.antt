@@ -7,15 +7,15 @@ use Rattle.syntax_tree.specs.declared.token.TokenKind.TheVariants as token
 use Rattle.syntax_tree.specs.Places.{kind_at, Has, Lacks}
 use Rattle.syntax_tree.specs.Types.{IsType}
 use Rattle.type_skip.specs.Reading as types
-use Rattle.parse_steps.specs.declared.words.Word.{Word}
-use Rattle.parse_steps.specs.declared.words.Word.TheVariants as word
+use Rattle.type_skip.specs.declared.words.Word.{Word}
+use Rattle.type_skip.specs.declared.words.Word.TheVariants as word
 use Rattle.parse_steps.specs.Classes.{name_of}
 use Rattle.parse_steps.specs.Items as item
 use Rattle.parse_steps.specs.Items.{Item, depth, expression}
 use Rattle.parse_steps.specs.Steps.{most, Leads, here, no_type, deep_type}
 use Rattle.parse_steps.specs.Turns.{Turn, stops, stays, takes, word_or, name_turn}
-use Rattle.parse_steps.specs.Words.{token_of}
-use Rattle.parse_steps.proofs.WordTests.{stands_there, stands_not}
+use Rattle.type_skip.specs.Words.{token_of}
+use Rattle.type_skip.proofs.WordTests.{stands_there, stands_not}
 use Rattle.expression_parser.specs.declared.fault.Fault.TheVariants as fault
 use Rattle.expression_parser.specs.Reading.{Fails}
 use Rattle.expression_parser.proofs.Leading.{staying, taking, stuck_here}

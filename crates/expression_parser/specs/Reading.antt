@@ -20,11 +20,11 @@ use Rattle.parse_steps.specs.declared.levels.Level.{Level}
 use Rattle.parse_steps.specs.declared.levels.Level.TheVariants as levels
 use Rattle.parse_steps.specs.declared.levels.Rank.{Rank}
 use Rattle.parse_steps.specs.declared.classes.Suffix.TheVariants as suffix_class
-use Rattle.parse_steps.specs.declared.words.Word.{Word}
-use Rattle.parse_steps.specs.declared.words.Word.TheVariants as words
+use Rattle.type_skip.specs.declared.words.Word.{Word}
+use Rattle.type_skip.specs.declared.words.Word.TheVariants as words
 use Rattle.parse_steps.specs.declared.classes.Beginning.TheVariants as begins
 use Rattle.parse_steps.specs.Classes.{suffix, beginning}
-use Rattle.parse_steps.specs.Words.{token_of}
+use Rattle.type_skip.specs.Words.{token_of}
 use Rattle.parse_steps.specs.Items as item
 use Rattle.parse_steps.specs.Items.{Item, PrefixUse, depth, climb}
 use Rattle.parse_steps.specs.Levels.{rank_of}

@@ -13,10 +13,11 @@ use crate::grammar::{Grammar, within};
 use crate::nodes::{binary, boxed_at, push};
 use crate::parts::{Found, Part, Parts, Wanted};
 use crate::types::type_at;
-use parse_steps::{Level, Rank, Word, stands, unary_at};
+use parse_steps::{Level, Rank, unary_at};
 use sqlite_items::Items;
 use std::alloc::Global;
 use syntax_tree::{BinOp, ExprKind, Token};
+use type_skip::{Word, stands};
 
 impl<'a, F: Fn(Global, &[Token], usize, Wanted, usize) -> Result<Found, Fault>> Grammar<'a, F> {
     /// An expression of a level.

@@ -13,10 +13,10 @@ use crate::parts::{Bind, Binds, Found, Function, Parameters, Wanted};
 use crate::types::type_at;
 use crate::words::{expect, expect_name};
 use byte_text::StrId;
-use parse_steps::{Word, stands};
 use sqlite_items::Items;
 use std::alloc::Global;
 use syntax_tree::Token;
+use type_skip::{Word, stands};
 
 /// A `:` and a type, where a `:` stands.
 fn typing(tokens: &[Token], at: usize) -> Result<usize, Fault>

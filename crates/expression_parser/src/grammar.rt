@@ -49,7 +49,7 @@ impl<'a, F: Fn(Global, &[Token], usize, Wanted, usize) -> Result<Found, Fault>> 
             self.room - 1,
         )? {
             Found::Part(part) => Ok(part),
-            Found::Parts(_) | Found::Block(_) => Err(Fault::OutOfMemory),
+            Found::Parts(_) | Found::Block(_) => unreachable!(),
         }
     }
 
@@ -72,7 +72,7 @@ impl<'a, F: Fn(Global, &[Token], usize, Wanted, usize) -> Result<Found, Fault>> 
     {
         match (self.nested)(self.alloc, self.tokens, at, Wanted::Unary, self.room - 1)? {
             Found::Part(part) => Ok(part),
-            Found::Parts(_) | Found::Block(_) => Err(Fault::OutOfMemory),
+            Found::Parts(_) | Found::Block(_) => unreachable!(),
         }
     }
 
@@ -86,7 +86,7 @@ impl<'a, F: Fn(Global, &[Token], usize, Wanted, usize) -> Result<Found, Fault>> 
     {
         match (self.nested)(self.alloc, self.tokens, at, Wanted::Table, self.room - 1)? {
             Found::Part(part) => Ok(part),
-            Found::Parts(_) | Found::Block(_) => Err(Fault::OutOfMemory),
+            Found::Parts(_) | Found::Block(_) => unreachable!(),
         }
     }
 
@@ -99,7 +99,7 @@ impl<'a, F: Fn(Global, &[Token], usize, Wanted, usize) -> Result<Found, Fault>> 
     {
         match (self.nested)(self.alloc, self.tokens, at, Wanted::List, self.room - 1)? {
             Found::Parts(parts) => Ok(parts),
-            Found::Part(_) | Found::Block(_) => Err(Fault::OutOfMemory),
+            Found::Part(_) | Found::Block(_) => unreachable!(),
         }
     }
 
@@ -112,7 +112,7 @@ impl<'a, F: Fn(Global, &[Token], usize, Wanted, usize) -> Result<Found, Fault>> 
     {
         match (self.nested)(self.alloc, self.tokens, at, Wanted::Block, self.room - 1)? {
             Found::Block(block) => Ok(block),
-            Found::Part(_) | Found::Parts(_) => Err(Fault::OutOfMemory),
+            Found::Part(_) | Found::Parts(_) => unreachable!(),
         }
     }
 }

@@ -12,10 +12,11 @@ use crate::grammar::{Grammar, within};
 use crate::nodes::{boxed_at, boxed_call, push};
 use crate::parts::{Ending, Found, Part, Parts, Prefix, Wanted};
 use crate::words::{expect, expect_name};
-use parse_steps::{Arguments, Suffix, Word, arguments_at, stands, suffix_at};
+use parse_steps::{Arguments, Suffix, arguments_at, suffix_at};
 use sqlite_items::Items;
 use std::alloc::Global;
 use syntax_tree::{ExprKind, Token};
+use type_skip::{Word, stands};
 
 /// Whether the `(` at a place begins on a later line than the token before it ends.
 fn is_late(tokens: &[Token], at: usize) -> bool

@@ -15,10 +15,11 @@ use crate::nodes::{boxed_at, func_at, named, push, push_arm};
 use crate::parts::{ArmPart, Choices, Ending, Found, Part, Pieces, Prefix, Wanted};
 use crate::words::expect;
 use byte_text::StrId;
-use parse_steps::{Beginning, Word, beginning_at, end_at, kind_at, middle_at, stands};
+use parse_steps::{Beginning, beginning_at, end_at, middle_at};
 use sqlite_items::Items;
 use std::alloc::{AllocError, Global};
 use syntax_tree::{ExprKind, Token, TokenKind};
+use type_skip::{Word, kind_at, stands};
 
 /// The node without parts that the token at a place is, where it is one.
 fn literal(alloc: Global, tokens: &[Token], at: usize) -> Result<Option<ExprKind>, AllocError>

@@ -12,10 +12,11 @@ use crate::nodes::{item_at, keyed_at, named_at, push_field};
 use crate::parts::{FieldPart, Fields, Found, Wanted};
 use crate::words::expect;
 use byte_text::StrId;
-use parse_steps::{Word, name_at, stands};
+use parse_steps::name_at;
 use sqlite_items::Items;
 use std::alloc::Global;
 use syntax_tree::Token;
+use type_skip::{Word, stands};
 
 impl<'a, F: Fn(Global, &[Token], usize, Wanted, usize) -> Result<Found, Fault>> Grammar<'a, F> {
     /// The fields of a table, behind its `{` and up to its `}`.

@@ -4,8 +4,9 @@ ghost use Rattle.expression_parser.specs.Reading.{FindsWord, FindsName};
 
 use crate::fault::Fault;
 use byte_text::StrId;
-use parse_steps::{Word, name_at, stands};
+use parse_steps::name_at;
 use syntax_tree::Token;
+use type_skip::{Word, stands};
 
 /// The place behind a word.
 pub fn expect(tokens: &[Token], at: usize, word: Word) -> Result<usize, Fault>

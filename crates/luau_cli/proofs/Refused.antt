@@ -15,6 +15,7 @@ use Rattle.syntax_tree.specs.Numbers.{numbered}
 use Rattle.syntax_tree.specs.Tokens.{HasTokens}
 use Rattle.luau_lexer.proofs.OneTokenList.{one_list, tokens_or_fault}
 use Rattle.syntax_tree.specs.Parsed.{IsShallow, IsParsed, IsRefusedFor, HasRefusal}
+use Rattle.luau_parser.proofs.Refusing.{without_tree}
 use Rattle.luau_parser.proofs.OneTree.{same_block}
 use Rattle.emit_stat.specs.Unbuilt.{first_unbuilt}
 use Rattle.luau_cli.specs.declared.refusal.ScriptErr.{ScriptErr}
@@ -32,7 +33,7 @@ one_tree ts a b p q =
 
 -- tokens with a tree are not refused
 parsed_or_refused : (ts : List Token) (tree : Tree) (c : Cause) (at : ℕ) → IsParsed ts tree → IsRefusedFor ts c at → ⊥
-parsed_or_refused ts tree cause.Unexpected at p r = r.no_tree tree (derives ts tree p.0)
+parsed_or_refused ts tree cause.Unexpected at p r = without_tree ts at r tree (derives ts tree p.0)
 parsed_or_refused ts tree cause.TooDeep at p r = r.none ts tree refl p.0
 parsed_or_refused ts tree cause.AmbiguousCall at p r = p.1 r.place r.call
 parsed_or_refused ts tree _ at p r = r

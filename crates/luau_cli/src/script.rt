@@ -36,7 +36,7 @@ pub fn read_script(alloc: Global, source: &[u8]) -> Result<Reading, OutOfMemory>
         Ok(tokens) => tokens,
         Err(error) => return refused(error.refusal()),
     };
-    let tree = match parse(alloc, tokens.as_slice()) {
+    let tree = match parse(alloc, tokens.as_slice(), &mut names) {
         Ok(tree) => tree,
         Err(error) => return refused(error.refusal()),
     };

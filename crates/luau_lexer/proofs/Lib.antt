@@ -12,3 +12,4 @@ pub mod Tables
 pub mod Texts
 pub mod UniquePlaces
 pub mod UniqueStrings
+pub mod LongestSymbol

@@ -20,7 +20,7 @@ ghost use Rattle.luau_lexer.specs.Laws.{Keeps, Reading, HasReading, Answers};
 
 use byte_text::Interner;
 pub use error::LexErr;
-pub use laws::{one_reading, one_token_list};
+pub use laws::{longest_symbol, one_reading, one_token_list};
 use lexer::{Found, Lexer};
 use std::alloc::Global;
 use syntax_tree::Token;

@@ -1,5 +1,5 @@
 use byte_text::{Interner, StrId};
-use luau_lexer::{LexErr, lex};
+use luau_lexer::{LexErr, lex, longest_symbol, one_reading, one_token_list};
 use std::alloc::{AllocError, Global};
 use std::test::Fail;
 use syntax_tree::{Token, TokenKind};
@@ -279,5 +279,13 @@ fn faults(rt: HostRuntime) -> Result<(), Fail> {
             Err(e) => assert_eq!(rt; e, *wanted, "at {source:?}"),
         }
     }
+    Ok(())
+}
+
+#[test]
+fn laws(rt: HostRuntime) -> Result<(), Fail> {
+    one_reading();
+    one_token_list();
+    longest_symbol();
     Ok(())
 }

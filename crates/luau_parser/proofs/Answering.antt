@@ -7,15 +7,22 @@ use Rattle.syntax_tree.specs.declared.tree.Tree.{Tree}
 use Rattle.syntax_tree.specs.Calls.{Ambiguous}
 use Rattle.syntax_tree.specs.Derivations.{main_function, Derives}
 use Rattle.syntax_tree.specs.Numbers.{numbered}
+use Rattle.syntax_tree.specs.Proper.{IsProper}
 use Rattle.parse_steps.specs.Steps.{most}
 use Rattle.luau_parser.specs.declared.error.ParseErr.{ParseErr}
 use Rattle.luau_parser.specs.declared.error.ParseErr.TheVariants as refusal
 use Rattle.syntax_tree.specs.Parsed.{IsShallow, IsParsed}
 use Rattle.luau_parser.specs.Refusals.{IsRefusal, Answers}
 use Rattle.luau_parser.proofs.OneTree.{same_block}
+use Rattle.luau_parser.proofs.ProperTrees.{trees_are_proper}
+use Rattle.luau_parser.proofs.Refusing.{without_tree}
 
 shallow_derives : {ts : List Token} {tree : Tree} → IsShallow ts tree → Derives ts tree
 shallow_derives s = record { brackets = most; block = s.block; derived = s.derived; numbers = s.numbers }
+
+pub proper_answer : (ts : List Token) (r : Result Tree ParseErr) → IfOk r (IsParsed ts) → IfOk r IsProper
+proper_answer ts (Ok tree) good = trees_are_proper ts tree (shallow_derives good.0)
+proper_answer ts (Err e) good = tt
 
 same_tree : {ts : List Token} {tree other : Tree} → IsShallow ts tree → IsShallow ts other → tree ≡ other
 same_tree a b =
@@ -24,7 +31,7 @@ same_tree a b =
 
 pub finds_tree : (ts : List Token) (tree : Tree) → IsParsed ts tree → (r : Result Tree ParseErr) → IfOk r (IsParsed ts) → IfErr r (IsRefusal ts) → Answers (Ok tree) r
 finds_tree ts tree p (Ok other) good bad = inl (ap Ok (same_tree good.0 p.0))
-finds_tree ts tree p (Err (refusal.Unexpected at)) good bad = absurd (bad.no_tree tree (shallow_derives p.0))
+finds_tree ts tree p (Err (refusal.Unexpected at)) good bad = absurd (without_tree ts at bad tree (shallow_derives p.0))
 finds_tree ts tree p (Err (refusal.TooDeep at)) good bad = absurd (bad.none ts tree refl p.0)
 finds_tree ts tree p (Err (refusal.AmbiguousCall at)) good bad = absurd (p.1 bad.place bad.call)
 finds_tree ts tree p (Err refusal.OutOfMemory) good bad = inr refl
@@ -50,7 +57,7 @@ same_offset {ts = ts} a b =
 
 pub finds_ambiguous : (ts : List Token) (tree : Tree) → IsShallow ts tree → (at : ℕ) → Ambiguous ts at → (r : Result Tree ParseErr) → IfOk r (IsParsed ts) → IfErr r (IsRefusal ts) → Answers (Err (refusal.AmbiguousCall at)) r
 finds_ambiguous ts tree s at a (Ok other) good bad = absurd (good.1 a.place a.call)
-finds_ambiguous ts tree s at a (Err (refusal.Unexpected place)) good bad = absurd (bad.no_tree tree (shallow_derives s))
+finds_ambiguous ts tree s at a (Err (refusal.Unexpected place)) good bad = absurd (without_tree ts place bad tree (shallow_derives s))
 finds_ambiguous ts tree s at a (Err (refusal.TooDeep place)) good bad = absurd (bad.none ts tree refl s)
 finds_ambiguous ts tree s at a (Err (refusal.AmbiguousCall place)) good bad = inl (ap (λ x. Err (refusal.AmbiguousCall x)) (same_offset bad a))
 finds_ambiguous ts tree s at a (Err refusal.OutOfMemory) good bad = inr refl

@@ -11,7 +11,7 @@ use Rattle.syntax_tree.specs.Grammar as grammar
 use Rattle.syntax_tree.specs.Nodes.{stat_at, arm}
 use Rattle.syntax_tree.specs.Places.{kind_at, Has, Lacks}
 use Rattle.parse_steps.specs.declared.classes.Opening.TheVariants as opens
-use Rattle.parse_steps.specs.declared.words.Word.TheVariants as words
+use Rattle.type_skip.specs.declared.words.Word.TheVariants as words
 use Rattle.parse_steps.specs.Classes.{opening}
 use Rattle.parse_steps.specs.Items as item
 use Rattle.parse_steps.specs.Items.{Item, depth, expression}

@@ -9,7 +9,7 @@ use Rattle.syntax_tree.specs.Grammar.{PrefixEnd, in_target, in_call, in_paren}
 use Rattle.syntax_tree.specs.Operators.{compound_operator}
 use Rattle.syntax_tree.specs.Places.{kind_at, Has, Lacks}
 use Rattle.parse_steps.specs.declared.classes.Suffix.TheVariants as suffix_class
-use Rattle.parse_steps.specs.declared.words.Word.TheVariants as word
+use Rattle.type_skip.specs.declared.words.Word.TheVariants as word
 use Rattle.parse_steps.specs.Classes.{suffix, name_of}
 use Rattle.parse_steps.specs.Items as item
 use Rattle.parse_steps.specs.Items.{Item, PrefixUse, in_expression, first_target, later_target, depth, expression}

@@ -16,7 +16,7 @@ use Rattle.syntax_tree.specs.Types.{IsType, plain_type, last_part, part, IsAtom,
 use Rattle.syntax_tree.specs.Types as types
 use Rattle.syntax_tree.specs.Nodes.{expr_at, call_at, stat_at, arm}
 use Rattle.syntax_tree.specs.Operators.{ors, ands, comparisons, sums, products, operator, unary_operator}
-use Rattle.syntax_tree.specs.Words.{literal_of, ends_last, is_continue, opens_type, continue_name, type_name, ends_block, opens_suffix}
+use Rattle.syntax_tree.specs.Words.{literal_of, ends_last, is_continue, opens_type, self_name, continue_name, type_name, ends_block, opens_suffix}
 use Rattle.syntax_tree.specs.Derivations.{IsChunk}
 use Rattle.syntax_tree.specs.Grammar as grammar
 use Rattle.syntax_tree.specs.Grammar.{PrefixEnd, in_target, in_call, in_paren, IsExpr, IsLevel, IsConcat, IsUnary, IsPow, IsCast, IsSimple, IsPrefix, IsStat, IsBlock, IsLast, IsArgs}
@@ -289,11 +289,11 @@ named_field =
 abbrev method_tokens : List Token
 method_tokens = tokens (token.Function ∷ token.Name a ∷ token.Colon ∷ token.Name b ∷ token.OpenParen ∷ token.CloseParen ∷ token.End ∷ [])
 
-method : example.Has (token.Function ∷ token.Name a ∷ token.Colon ∷ token.Name b ∷ token.OpenParen ∷ token.CloseParen ∷ token.End ∷ []) (example.stat_node 0 (stat.Assign (example.node 1 (expr.Member (example.name 1 a) b) ∷ []) (example.node 0 (expr.Function (example.function 0 (example.self_name ∷ []) false [])) ∷ [])) ∷ [])
+method : example.Has (token.Function ∷ token.Name a ∷ token.Colon ∷ token.Name b ∷ token.OpenParen ∷ token.CloseParen ∷ token.End ∷ []) (example.stat_node 0 (stat.Assign (example.node 1 (expr.Member (example.name 1 a) b) ∷ []) (example.node 0 (expr.Function (example.function 0 (self_name ∷ []) false [])) ∷ [])) ∷ [])
 method =
     let ts = method_tokens in
-    script ts 7 (example.stat_node 0 (stat.Assign (example.node 1 (expr.Member (example.name 1 a) b) ∷ []) (example.node 0 (expr.Function (example.function 0 (example.self_name ∷ []) false [])) ∷ []))) refl refl
-    (grammar.function_stat 0 4 7 (example.node 1 (expr.Member (example.name 1 a) b)) (example.self_name ∷ []) [] false [] refl
+    script ts 7 (example.stat_node 0 (stat.Assign (example.node 1 (expr.Member (example.name 1 a) b) ∷ []) (example.node 0 (expr.Function (example.function 0 (self_name ∷ []) false [])) ∷ []))) refl refl
+    (grammar.function_stat 0 4 7 (example.node 1 (expr.Member (example.name 1 a) b)) (self_name ∷ []) [] false [] refl
     (grammar.method_name 1 2 a b (example.name 1 a) refl (grammar.no_member 2 (example.name 1 a) (λ e. cc)) refl refl)
     (grammar.body 4 4 5 6 6 [] false [] (types.no_generics 0 4 (λ e. cc)) refl (grammar.no_params 5 refl) refl (grammar.untyped 6 (λ e. cc)) (grammar.no_stat 6 refl) refl)) refl
 

@@ -9,7 +9,7 @@ use Rattle.syntax_tree.specs.Grammar.{IsMembers, no_member, more_members, IsFunc
 use Rattle.syntax_tree.specs.Nodes.{expr_at}
 use Rattle.syntax_tree.specs.Places.{kind_at, Has, Lacks}
 use Rattle.syntax_tree.specs.Words.{self_name}
-use Rattle.parse_steps.specs.declared.words.Word.TheVariants as word
+use Rattle.type_skip.specs.declared.words.Word.TheVariants as word
 use Rattle.parse_steps.specs.Items as item
 use Rattle.parse_steps.specs.Items.{Item, depth}
 use Rattle.parse_steps.specs.Steps.{most, Leads}

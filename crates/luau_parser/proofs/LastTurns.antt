@@ -7,7 +7,7 @@ use Rattle.syntax_tree.specs.declared.token.TokenKind.TheVariants as token
 use Rattle.syntax_tree.specs.Places.{kind_at, Has, Optional, taken, absent}
 use Rattle.syntax_tree.specs.Words.{ends_block, ends_last, is_semicolon}
 use Rattle.parse_steps.specs.declared.classes.Opening.TheVariants as opens
-use Rattle.parse_steps.specs.declared.words.Word.TheVariants as word
+use Rattle.type_skip.specs.declared.words.Word.TheVariants as word
 use Rattle.parse_steps.specs.Classes.{opening}
 use Rattle.parse_steps.specs.Items as item
 use Rattle.parse_steps.specs.Items.{Item, expression}

@@ -16,7 +16,11 @@ pub mod FunctionStatTurns
 pub mod StatementOpenings
 pub mod TreeInduction
 pub mod TreeLevels
+pub mod NumberedLevels
+pub mod NumberedFolds
 pub mod NumberedNest
+pub mod ProperNodes
+pub mod ProperTrees
 pub mod Sequences
 pub mod NodeStatements
 pub mod StatementTurns

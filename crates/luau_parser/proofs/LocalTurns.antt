@@ -8,7 +8,7 @@ use Rattle.syntax_tree.specs.declared.tree.StatKind as stat
 use Rattle.syntax_tree.specs.Grammar.{IsStat, bare_local, local}
 use Rattle.syntax_tree.specs.Nodes.{stat_at}
 use Rattle.syntax_tree.specs.Places.{Has, Lacks}
-use Rattle.parse_steps.specs.declared.words.Word.TheVariants as word
+use Rattle.type_skip.specs.declared.words.Word.TheVariants as word
 use Rattle.parse_steps.specs.Items as item
 use Rattle.parse_steps.specs.Items.{Item, depth, expression}
 use Rattle.parse_steps.specs.Steps.{most, Leads}

@@ -11,7 +11,7 @@ use Rattle.syntax_tree.specs.Nodes.{stat_at}
 use Rattle.syntax_tree.specs.Places.{kind_at, is_name, is_named, Has}
 use Rattle.syntax_tree.specs.Types.{IsGenerics}
 use Rattle.syntax_tree.specs.Words.{continue_name, type_name, export_name, opens_type}
-use Rattle.parse_steps.specs.declared.words.Word.TheVariants as word
+use Rattle.type_skip.specs.declared.words.Word.TheVariants as word
 use Rattle.parse_steps.specs.Items as item
 use Rattle.parse_steps.specs.Items.{Item, first_target, depth}
 use Rattle.parse_steps.specs.Classes as classes

@@ -13,13 +13,15 @@ use Rattle.syntax_tree.specs.Numbers.{numbered}
 use Rattle.syntax_tree.specs.Places.{kind_at, Has}
 use Rattle.type_skip.specs.Reading.{SameBelow}
 use Rattle.syntax_tree.specs.Places.{offset_at, end_of, BeginsAs}
-use Rattle.type_skip.proofs.Passing.{same_kinds, there_or_past}
+use Rattle.type_skip.proofs.Passing.{same_kinds, there_or_past, offset_within, first_wrong, ends_early}
 use Rattle.parse_steps.specs.Items.{Item, block}
-use Rattle.parse_steps.specs.Steps.{most, Leads, IsDeep, deep_node, deep_type, left_over}
+use Rattle.parse_steps.specs.Steps.{most, Leads, IsStuck, no_turn, no_type, left_over, IsDeep, deep_node, deep_type}
 use Rattle.parse_steps.specs.Turns.{turn}
+use Rattle.parse_steps.proofs.CanGoOn.{GoesOn, can_go_on, can_go_on_typed, can_go_on_early}
 use Rattle.parse_steps.proofs.CanOpen.{can_open}
 use Rattle.parse_steps.proofs.Deepness.{deep_counted, takes_within, fits_most}
 use Rattle.parse_steps.proofs.Kept.{keeps}
+use Rattle.parse_steps.proofs.WithinText.{runs_within}
 use Rattle.expression_parser.specs.declared.parts.Block.{Block}
 use Rattle.expression_parser.specs.declared.fault.Fault.{Fault}
 use Rattle.expression_parser.specs.declared.fault.Fault.TheVariants as fault
@@ -48,15 +50,59 @@ parsed ts b tree r numbers =
 
 -- ---- refusals
 
-pub unexpected : (ts : List Token) (k : ℕ) → ReadsScript ts (Err (fault.Unexpected k)) → IsUnexpected ts (shown ts k)
-unexpected ts k r = record {
-  no_tree = λ tree d. no_chunk ts ts d.brackets k d.block r (same_self ts) d.derived;
-  place = by_place (there_or_past ts k (cases_lt k (length ts)));
-}
+-- the tokens before the one that nothing goes on with
+goes_on_before : (ts : List Token) (k : ℕ) → ReadsScript ts (Err (fault.Unexpected k)) → k < length ts → GoesOn ts k
+goes_on_before ts k r less = by_end r.run r.ends
   where
-    by_place : ((x : ℕ) × (offset_at ts k ≡ Some x)) ⊎ ((length ts ≤ k) × (offset_at ts k ≡ None)) → ((j : ℕ) × (offset_at ts j ≡ Some (shown ts k)) × ((us : List Token) (tree : Tree) → BeginsAs ts (j + 1) us → Derives us tree → ⊥)) ⊎ (shown ts k ≡ end_of ts)
-    by_place (inl there) = inl (k, there.1 ∙ ap (λ o. Some (unwrap_or o (end_of ts))) (sym there.1), λ us tree begins d. no_chunk ts us d.brackets k d.block r (same_kinds ts us (k + 1) begins) d.derived)
-    by_place (inr past) = inr (ap (λ o. unwrap_or o (end_of ts)) past.1)
+    by_end : {i v : ℕ} {m : List Item} → Leads ts 0 0 (block ∷ []) i v m → IsStuck ts i v m k → GoesOn ts k
+    by_end run (no_turn i v x m e other) = can_go_on run
+    by_end run (no_type i v p m stuck) = can_go_on_typed run (first_wrong ts i p stuck less)
+    by_end run (left_over i v e) = can_go_on run
+
+-- all tokens, where nothing goes on behind them
+goes_on_behind : (ts : List Token) (k : ℕ) → ReadsScript ts (Err (fault.Unexpected k)) → length ts ≤ k → GoesOn ts (length ts)
+goes_on_behind ts k r past = by_end r.run r.ends
+  where
+    all_read : {i v : ℕ} {m : List Item} → Leads ts 0 0 (block ∷ []) i v m → length ts ≤ i → GoesOn ts (length ts)
+    all_read run le =
+        let within = runs_within ts run (omega arith) in
+        subst (λ (x : ℕ). GoesOn ts x) (omega (arith, le, within)) (can_go_on run)
+
+    by_end : {i v : ℕ} {m : List Item} → Leads ts 0 0 (block ∷ []) i v m → IsStuck ts i v m k → GoesOn ts (length ts)
+    by_end run (no_turn i v x m e other) = all_read run past
+    by_end run (no_type i v p m stuck) = can_go_on_early run (ends_early ts i p stuck past)
+    by_end run (left_over i v e) = all_read run past
+
+goes_to_tree : {ts : List Token} {k : ℕ} → GoesOn ts k → (us : List Token) × (tree : Tree) × BeginsAs ts k us × Derives us tree
+goes_to_tree g =
+    (g.tokens, numbered (main_function g.block), g.begins, record { brackets = g.brackets; block = g.block; derived = g.derived; numbers = refl })
+
+pub unexpected : (ts : List Token) (k : ℕ) → ReadsScript ts (Err (fault.Unexpected k)) → IsUnexpected ts (shown ts k)
+unexpected ts k r = by_place (there_or_past ts k (cases_lt k (length ts)))
+  where
+    by_place : ((x : ℕ) × (offset_at ts k ≡ Some x)) ⊎ ((length ts ≤ k) × (offset_at ts k ≡ None)) → IsUnexpected ts (shown ts k)
+    by_place (inl there) =
+        inl (
+          k,
+          there.1 ∙ ap (λ o. Some (unwrap_or o (end_of ts))) (sym there.1),
+          record {
+            none = λ us tree begins d. no_chunk ts us d.brackets k d.block r (same_kinds ts us (k + 1) begins) d.derived;
+            before = goes_to_tree (goes_on_before ts k r (offset_within ts k there.0 there.1));
+          },
+        )
+    by_place (inr past) =
+        inr (
+          record {
+            none = λ tree d. no_chunk ts ts d.brackets k d.block r (same_self ts) d.derived;
+            before = goes_to_tree (goes_on_behind ts k r past.0);
+          },
+          ap (λ o. unwrap_or o (end_of ts)) past.1,
+        )
+
+-- so no tree derives
+pub without_tree : (ts : List Token) (at : ℕ) → IsUnexpected ts at → (tree : Tree) → Derives ts tree → ⊥
+without_tree ts at (inl wrong) tree d = wrong.2.none ts tree refl d
+without_tree ts at (inr early) tree d = early.0.none tree d
 
 shallow_func : {us : List Token} {tree : Tree} (s : IsShallow us tree) → nest_func (main_function s.block) ≤ most
 shallow_func {tree = tree} s =
@@ -99,7 +145,12 @@ ambiguous ts k r =
     let here : k ≡ late.before + 1 = sym r.ends.0 ∙ late.place in
     record {
       place = late.before;
-      call = record { late = late.late; call = subst (λ (i : ℕ). OpensCall ts i) late.place (can_open (at_item r.run late.stack) late.opens (subst (λ (i : ℕ). Has ts i token.OpenParen) (sym late.place) late.late.opens)) };
+      call = record {
+        late = late.late;
+        call =
+            subst (λ (i : ℕ). OpensCall ts i) late.place
+            (can_open (at_item r.run late.stack) late.opens (subst (λ (i : ℕ). Has ts i token.OpenParen) (sym late.place) late.late.opens));
+      };
       first = λ i less earlier. no_late_call i r.run (omega (arith, less, late.place)) earlier;
       offset = sym (ap (λ i. shown ts i) here ∙ ap (λ o. unwrap_or (option_map (λ (t : Token). t.at) o) (end_of ts)) late.late.stands);
     }

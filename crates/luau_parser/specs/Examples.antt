@@ -19,6 +19,7 @@ use Rattle.syntax_tree.specs.declared.tree.Stat.{Stat}
 use Rattle.syntax_tree.specs.declared.tree.StatKind.{StatKind}
 use Rattle.syntax_tree.specs.declared.tree.StatKind as stat
 use Rattle.syntax_tree.specs.Derivations.{IsChunk}
+use Rattle.syntax_tree.specs.Words.{self_name, continue_name, type_name}
 
 -- tokens of one byte each, on one line
 abbrev pub tokens_from : ℕ → List TokenKind → List Token
@@ -44,15 +45,6 @@ b = record { 0 = 11 }
 
 abbrev pub c : StrId
 c = record { 0 = 12 }
-
-abbrev pub self_name : StrId
-self_name = record { 0 = 1 }
-
-abbrev pub continue_name : StrId
-continue_name = record { 0 = 2 }
-
-abbrev pub type_name : StrId
-type_name = record { 0 = 3 }
 
 abbrev pub one : TokenKind
 one = token.Number (pos 1)

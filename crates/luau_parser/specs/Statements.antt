@@ -14,9 +14,9 @@ use Rattle.syntax_tree.specs.Places.{kind_at, is_name, is_named, Has, Lacks, Opt
 use Rattle.syntax_tree.specs.Types.{IsType, IsGenerics}
 use Rattle.syntax_tree.specs.Nodes.{expr_at, stat_at, function_at}
 use Rattle.syntax_tree.specs.Words.{self_name, continue_name, type_name, export_name, ends_block, opens_type, is_continue}
-use Rattle.parse_steps.specs.declared.words.Word.TheVariants as words
+use Rattle.type_skip.specs.declared.words.Word.TheVariants as words
 use Rattle.parse_steps.specs.Classes.{suffix, opening}
-use Rattle.parse_steps.specs.Words.{is_word}
+use Rattle.type_skip.specs.Words.{is_word}
 use Rattle.parse_steps.specs.declared.classes.Opening.TheVariants as opens
 use Rattle.parse_steps.specs.declared.classes.Suffix.TheVariants as suffix_class
 use Rattle.parse_steps.specs.Items as item

@@ -12,10 +12,11 @@ use crate::nodes::{boxed_stat, call_stat};
 use crate::parts::Statement;
 use crate::rules::Rules;
 use expression_parser::{Ending, Fault, Found, Part, Parts, Prefix, Wanted, named, push, within};
-use parse_steps::{Level, Rank, Word, compound_at, name_at, stands};
+use parse_steps::{Level, Rank, compound_at, name_at};
 use sqlite_items::Items;
 use std::alloc::Global;
 use syntax_tree::{BinOp, StatKind, Token};
+use type_skip::{Word, stands};
 
 impl<'a, F: Fn(Global, &[Token], usize, Wanted, usize) -> Result<Found, Fault>> Rules<'a, F> {
     /// A statement that begins with a parenthesis.

@@ -14,10 +14,11 @@ use byte_text::StrId;
 use expression_parser::{
     Block, Fault, Found, Prefix, Wanted, expect, expect_name, generics, named, type_at,
 };
-use parse_steps::{Opening, Word, kind_at, opening_at, stands};
+use parse_steps::{Opening, opening_at};
 use sqlite_items::Items;
 use std::alloc::Global;
 use syntax_tree::{StatKind, Token, TokenKind};
+use type_skip::{Word, kind_at, stands};
 
 /// Whether the token at a place, or the end of the text there, ends a block.
 fn ends(tokens: &[Token], at: usize) -> bool

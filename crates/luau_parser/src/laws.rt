@@ -1,11 +1,16 @@
 //! Laws of the grammar.
 
 ghost use Rattle.luau_parser.specs.Examples.{Trees, Refusals};
-ghost use Rattle.syntax_tree.specs.Derivations.{TreesAreOne};
+ghost use Rattle.syntax_tree.specs.Derivations.{TreesAreOne, TreesAreProper};
 
 /// A token list has at most one tree.
 pub fn one_tree()
     ensures { TreesAreOne }
+{}
+
+/// Each tree that derives is proper: calls are calls, what is assigned to can be assigned to, and operators fit where they stand.
+pub fn trees_are_proper()
+    ensures { TreesAreProper }
 {}
 
 /// Short token lists with their trees.

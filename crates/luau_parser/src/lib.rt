@@ -13,5 +13,5 @@ mod scripts;
 mod statements;
 
 pub use error::ParseErr;
-pub use laws::{example_refusals, example_trees, one_tree};
+pub use laws::{example_refusals, example_trees, one_tree, trees_are_proper};
 pub use scripts::parse;

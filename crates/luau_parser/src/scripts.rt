@@ -2,6 +2,7 @@
 
 ghost use Rattle.std.specs.Prelude.{◌≡◌, ℕ, IfOk, IfErr, Ok, Err, unwrap_or};
 ghost use Rattle.syntax_tree.specs.Calls.{Ambiguous};
+ghost use Rattle.syntax_tree.specs.Proper.{IsProper};
 ghost use Rattle.syntax_tree.specs.declared.tree.Tree.{Tree};
 ghost use Rattle.syntax_tree.specs.Places.{offset_at, end_of};
 ghost use Rattle.syntax_tree.specs.Parsed.{IsShallow, IsParsed};
@@ -11,17 +12,23 @@ ghost use Rattle.luau_parser.specs.declared.error.ParseErr.TheVariants as refusa
 
 use crate::error::ParseErr;
 use crate::reading::nested;
+use byte_text::Interner;
 use expression_parser::{Block, Fault, Found, Wanted};
 use node_numbers::number;
 use sqlite_items::Items;
 use std::alloc::Global;
 use syntax_tree::{FuncBody, MOST_NESTED, Token, Tree};
 
-/// The tree of a script's tokens, with its nodes numbered. It needs no interner: the words that the grammar knows by their names have the
-/// same numbers in each.
-pub fn parse(alloc: Global, tokens: &[Token]) -> Result<Tree, ParseErr>
+/// The tree of a script's tokens, with its nodes numbered.
+///
+/// The interner is that of the tokens' texts. It is left as it was: the words that the grammar knows by their names have the same
+/// numbers in each.
+pub fn parse(alloc: Global, tokens: &[Token], names: &mut Interner) -> Result<Tree, ParseErr>
+    ensures names { names.new ≡ names.old }
     // The tree derives from the tokens, does not nest too deep, and no call is ambiguous.
     ensures tree { IfOk result (IsParsed tokens.now) }
+    // Calls are calls, what is assigned to can be assigned to, and operators fit where they stand.
+    ensures proper { IfOk result IsProper }
     // A refusal says what is wrong with the tokens, and where.
     ensures refusal { IfErr result (IsRefusal tokens.now) }
     // Tokens with such a tree are answered by it, unless memory runs out.
@@ -77,7 +84,7 @@ fn read(alloc: Global, tokens: &[Token]) -> Result<Block, Fault>
                 Ok(block)
             }
         }
-        Found::Part(_) | Found::Parts(_) => Err(Fault::OutOfMemory),
+        Found::Part(_) | Found::Parts(_) => unreachable!(),
     }
 }
 

@@ -13,10 +13,11 @@ use byte_text::StrId;
 use expression_parser::{
     Fault, Found, Part, Wanted, bind, binds, boxed_at, expect, expect_name, func_at, within,
 };
-use parse_steps::{Opening, Word, opening_at, stands};
+use parse_steps::{Opening, opening_at};
 use sqlite_items::Items;
 use std::alloc::{AllocError, Global};
 use syntax_tree::{ExprKind, StatKind, Token};
+use type_skip::{Word, stands};
 
 /// The name of a method, which adds a parameter.
 fn method_name(alloc: Global, method: Part) -> Result<FunctionName, AllocError>

@@ -1,8 +1,9 @@
 mod lexing;
 mod printing;
 
+use byte_text::Interner;
 use lexing::tokens;
-use luau_parser::parse;
+use luau_parser::{example_refusals, example_trees, one_tree, parse, trees_are_proper};
 use printing::Printer;
 use std::process::Abort;
 use std::test::Fail;
@@ -150,7 +151,7 @@ static REFUSALS: [(&str, u8, usize); 25] = [
 fn expect_tree(rt: &(impl Abort + AllocGlobal), text: &str, wanted: &str) -> Result<(), Fail> {
     let alloc = rt.alloc();
     let tokens = tokens(alloc, text.as_bytes())?;
-    match parse(alloc, tokens.as_slice()) {
+    match parse(alloc, tokens.as_slice(), &mut Interner::new(alloc)) {
         Ok(tree) => {
             let mut printer = Printer::new(alloc);
             printer.func(&tree.main)?;
@@ -172,7 +173,7 @@ fn expect_refusal(
     cause: u8,
     place: usize,
 ) -> Result<(), Fail> {
-    match parse(rt.alloc(), tokens) {
+    match parse(rt.alloc(), tokens, &mut Interner::new(rt.alloc())) {
         Ok(_) => return Err(Fail::from("accepted")),
         Err(error) => match error.refusal() {
             Some(refusal) => assert_eq!(*rt; (refusal.cause.number(), refusal.at), (cause, place)),
@@ -256,7 +257,11 @@ fn enclosed(rt: &impl AllocGlobal, count: usize) -> Result<Vec<Token>, Fail> {
 #[test]
 fn two_hundred_parentheses_are_read(rt: HostRuntime) -> Result<(), Fail> {
     let tokens = enclosed(&rt, 200)?;
-    match parse(rt.alloc(), tokens.as_slice()) {
+    match parse(
+        rt.alloc(),
+        tokens.as_slice(),
+        &mut Interner::new(rt.alloc()),
+    ) {
         Ok(tree) => assert_eq!(rt; tree.nodes, 203),
         Err(_) => return Err(Fail::from("refused")),
     }
@@ -269,10 +274,23 @@ fn a_chain_of_two_hundred_is_read(rt: HostRuntime) -> Result<(), Fail> {
     for part in [b"1+", b"a.", b"--"] {
         let text = repeated(&rt, if part == b"--" { 100 } else { 200 }, part, b"a")?;
         let tokens = tokens(rt.alloc(), text.as_slice())?;
-        match parse(rt.alloc(), tokens.as_slice()) {
+        match parse(
+            rt.alloc(),
+            tokens.as_slice(),
+            &mut Interner::new(rt.alloc()),
+        ) {
             Ok(tree) => assert!(rt; tree.nodes > 200),
             Err(_) => return Err(Fail::from("refused")),
         }
     }
+    Ok(())
+}
+
+#[test]
+fn laws(rt: HostRuntime) -> Result<(), Fail> {
+    one_tree();
+    trees_are_proper();
+    example_trees();
+    example_refusals();
     Ok(())
 }

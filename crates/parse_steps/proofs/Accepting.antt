@@ -10,14 +10,14 @@ use Rattle.syntax_tree.specs.declared.token.TokenKind.TheVariants as token
 use Rattle.syntax_tree.specs.Calls.{Places}
 use Rattle.syntax_tree.specs.Places.{kind_at, Has, Lacks}
 use Rattle.syntax_tree.specs.Types.{is_open_paren, IsType}
-use Rattle.parse_steps.specs.declared.words.Word.{Word}
+use Rattle.type_skip.specs.declared.words.Word.{Word}
 use Rattle.parse_steps.specs.Classes as classes
 use Rattle.parse_steps.specs.Items.{Item}
 use Rattle.parse_steps.specs.Items as item
 use Rattle.parse_steps.specs.Steps.{asks}
 use Rattle.parse_steps.specs.Turns.{Turn, turn, stops, stays, takes, word_or, name_turn}
-use Rattle.parse_steps.specs.Words.{token_of, is_word}
-use Rattle.parse_steps.proofs.WordTests.{has, lacks}
+use Rattle.type_skip.specs.Words.{token_of, is_word}
+use Rattle.type_skip.proofs.WordTests.{has, lacks}
 
 -- tokens, and a place where no token but a `(` stands; so many brackets of a type may be open at once
 pub record Text : Type 0 where

@@ -14,16 +14,16 @@ use Rattle.parse_steps.specs.declared.levels.Level.{Level}
 use Rattle.parse_steps.specs.declared.levels.Level.TheVariants as levels
 use Rattle.parse_steps.specs.declared.levels.Rank.{Rank}
 use Rattle.parse_steps.specs.declared.levels.Rank.TheVariants as rank
-use Rattle.parse_steps.specs.declared.words.Word.{Word}
-use Rattle.parse_steps.specs.declared.words.Word.TheVariants as word
+use Rattle.type_skip.specs.declared.words.Word.{Word}
+use Rattle.type_skip.specs.declared.words.Word.TheVariants as word
 use Rattle.parse_steps.specs.Items.{Item, PrefixUse, in_expression, first_target, later_target, climb}
 use Rattle.parse_steps.specs.Items as item
 use Rattle.parse_steps.specs.Levels.{rank_of}
 use Rattle.parse_steps.specs.Turns.{turn, stops, stays, takes, operations_turn, ending_turn}
-use Rattle.parse_steps.specs.Words.{token_of}
+use Rattle.type_skip.specs.Words.{token_of}
 use Rattle.parse_steps.proofs.Accepting.{Text, Accepts, stay, take, pass}
 use Rattle.parse_steps.proofs.Completing.{closing, closing_list, behind_type, no_member, no_generics, fits, list_closes}
-use Rattle.parse_steps.proofs.WordTests.{is_itself}
+use Rattle.type_skip.proofs.WordTests.{is_itself}
 
 -- turns lead to the end
 pub record Accepting (s : Text) (i v : ℕ) (k : List Item) : Type 0 where

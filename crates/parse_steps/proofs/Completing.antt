@@ -3,6 +3,7 @@
 -- An item that writes nothing must give way to what the next one writes first. `Sound k`: on the stack k each does.
 use Rattle.std.proofs.Common.{◌≡◌, ℕ, ◌+◌, Bool, true, false, IsTrue, List, [], ◌∷◌, ◌++◌, Option, Some, None, refl, sym, true≢false}
 use Rattle.byte_text.specs.declared.StrId.{StrId}
+use Rattle.byte_text.specs.declared.fixed.TheConstants.StrId as fixed
 use Rattle.syntax_tree.specs.declared.token.Token.{Token}
 use Rattle.syntax_tree.specs.declared.token.TokenKind.{TokenKind}
 use Rattle.syntax_tree.specs.declared.token.TokenKind.TheVariants as token
@@ -10,13 +11,13 @@ use Rattle.syntax_tree.specs.Places.{kind_at, Has}
 use Rattle.syntax_tree.specs.Words.{ends_block}
 use Rattle.parse_steps.specs.Items.{Item, in_expression, first_target, later_target}
 use Rattle.parse_steps.specs.Items as item
-use Rattle.parse_steps.specs.Words.{token_of}
+use Rattle.type_skip.specs.Words.{token_of}
 
 -- ---- what is written
 
 -- a name that begins no statement of its own
 abbrev pub some_name : StrId
-some_name = record { 0 = 5 }
+some_name = fixed.GETFENV
 
 abbrev pub written : Item → List TokenKind
 written (item.expects w) = token_of w ∷ []

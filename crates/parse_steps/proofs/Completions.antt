@@ -6,7 +6,7 @@ use Rattle.syntax_tree.specs.declared.token.TokenKind.TheVariants as token
 use Rattle.syntax_tree.specs.Grammar.{PrefixEnd, in_target}
 use Rattle.syntax_tree.specs.Places.{kind_at, Has}
 use Rattle.syntax_tree.specs.Words.{continue_name, type_name, export_name, ends_block}
-use Rattle.parse_steps.specs.declared.words.Word.TheVariants as word
+use Rattle.type_skip.specs.declared.words.Word.TheVariants as word
 use Rattle.parse_steps.specs.Items.{Item, PrefixUse, in_expression, first_target, later_target}
 use Rattle.parse_steps.specs.Items as item
 use Rattle.parse_steps.specs.Turns.{turn, named_stat}

@@ -13,7 +13,7 @@ use Rattle.syntax_tree.specs.Nodes.{stat_at}
 use Rattle.syntax_tree.specs.Operators.{compound_operator}
 use Rattle.syntax_tree.specs.Places.{kind_at, Has, Lacks, is_name, is_named}
 use Rattle.syntax_tree.specs.Words.{continue_name, type_name, export_name, ends_block, is_semicolon, opens_suffix, opens_type, is_continue}
-use Rattle.parse_steps.specs.declared.words.Word.TheVariants as word
+use Rattle.type_skip.specs.declared.words.Word.TheVariants as word
 use Rattle.parse_steps.specs.Classes as classes
 use Rattle.parse_steps.specs.Items.{Item, PrefixUse, in_expression, first_target, later_target, depth, expression}
 use Rattle.parse_steps.specs.Items as item

@@ -12,14 +12,14 @@ use Rattle.syntax_tree.specs.Grammar.{in_target}
 use Rattle.syntax_tree.specs.Places.{kind_at, Has}
 use Rattle.syntax_tree.specs.Types.{IsType}
 use Rattle.parse_steps.specs.declared.classes.Arguments.TheVariants as argument
-use Rattle.parse_steps.specs.declared.words.Word.{Word}
+use Rattle.type_skip.specs.declared.words.Word.{Word}
 use Rattle.parse_steps.specs.Classes as classes
 use Rattle.parse_steps.specs.Items.{Item, in_expression, expression}
 use Rattle.parse_steps.specs.Items as item
 use Rattle.parse_steps.specs.Steps.{asks}
 use Rattle.parse_steps.specs.Turns.{Turn, turn, stops, stays, takes, word_or}
-use Rattle.parse_steps.specs.Words.{token_of}
-use Rattle.parse_steps.proofs.WordTests.{stands_there, stands_not}
+use Rattle.type_skip.specs.Words.{token_of}
+use Rattle.type_skip.proofs.WordTests.{stands_there, stands_not}
 
 pub record Course (ts : List Token) (n b p : ℕ) : Type 1 where
   pub Asked : Type 0

@@ -17,7 +17,7 @@ use Rattle.syntax_tree.specs.Places.{kind_at, Has, Lacks}
 use Rattle.syntax_tree.specs.Words.{opens_suffix, literal_of}
 use Rattle.parse_steps.specs.declared.classes.Arguments.TheVariants as argument
 use Rattle.parse_steps.specs.declared.classes.Beginning.TheVariants as begins
-use Rattle.parse_steps.specs.declared.words.Word.TheVariants as word
+use Rattle.type_skip.specs.declared.words.Word.TheVariants as word
 use Rattle.parse_steps.specs.Classes as classes
 use Rattle.parse_steps.specs.Items.{Item, PrefixUse, in_expression, later_target, depth, expression}
 use Rattle.parse_steps.specs.Items as item

@@ -14,7 +14,7 @@ use Rattle.syntax_tree.specs.Nodes.{expr_at, stat_at, function_at, arm}
 use Rattle.syntax_tree.specs.Places.{kind_at, Has, Lacks, is_named, Optional, taken, absent}
 use Rattle.syntax_tree.specs.Types.{IsGenerics}
 use Rattle.syntax_tree.specs.Words.{continue_name, type_name, export_name, ends_block, is_semicolon, ends_last, is_continue}
-use Rattle.parse_steps.specs.declared.words.Word.TheVariants as word
+use Rattle.type_skip.specs.declared.words.Word.TheVariants as word
 use Rattle.parse_steps.specs.Classes as classes
 use Rattle.parse_steps.specs.Items.{Item, depth, expression}
 use Rattle.parse_steps.specs.Items as item

@@ -14,7 +14,7 @@ use Rattle.syntax_tree.specs.Types.{is_separator}
 use Rattle.syntax_tree.specs.Words.{opens_named, is_equal}
 use Rattle.parse_steps.specs.declared.levels.Level.TheVariants as levels
 use Rattle.parse_steps.specs.declared.levels.Rank.TheVariants as rank
-use Rattle.parse_steps.specs.declared.words.Word.TheVariants as word
+use Rattle.type_skip.specs.declared.words.Word.TheVariants as word
 use Rattle.parse_steps.specs.Classes as classes
 use Rattle.parse_steps.specs.Items.{Item, depth, climb, expression}
 use Rattle.parse_steps.specs.Items as item

@@ -8,7 +8,7 @@ use Rattle.syntax_tree.specs.Grammar.{IsTyping, untyped, typed, IsBind, bind, Is
 use Rattle.syntax_tree.specs.Places.{kind_at, Has, Lacks, is_name, Optional, taken, absent}
 use Rattle.syntax_tree.specs.Types.{IsType, IsGenerics, no_generics, generics, IsGenericList, last_generic, more_generics, IsGeneric, generic, IsDefault, no_default, default}
 use Rattle.syntax_tree.specs.Words.{type_name, export_name}
-use Rattle.parse_steps.specs.declared.words.Word.TheVariants as word
+use Rattle.type_skip.specs.declared.words.Word.TheVariants as word
 use Rattle.parse_steps.specs.Items.{Item}
 use Rattle.parse_steps.specs.Items as item
 use Rattle.parse_steps.specs.Turns.{turn, stays, takes, parameter_turn, type_items}

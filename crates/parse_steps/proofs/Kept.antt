@@ -9,20 +9,20 @@ use Rattle.syntax_tree.specs.Operators.{operator, unary_operator}
 use Rattle.syntax_tree.specs.Places.{is_named}
 use Rattle.syntax_tree.specs.Types.{is_separator}
 use Rattle.syntax_tree.specs.Words.{continue_name, type_name, export_name, ends_block}
-use Rattle.parse_steps.specs.declared.words.Word.{Word}
-use Rattle.parse_steps.specs.declared.words.Word.TheVariants as word
+use Rattle.type_skip.specs.declared.words.Word.{Word}
+use Rattle.type_skip.specs.declared.words.Word.TheVariants as word
 use Rattle.parse_steps.specs.declared.classes.Opening.TheVariants as opens
 use Rattle.parse_steps.specs.declared.levels.Rank.{Rank}
 use Rattle.parse_steps.specs.declared.levels.Rank.TheVariants as rank
 use Rattle.parse_steps.specs.Levels.{rank_of}
-use Rattle.parse_steps.specs.Words.{token_of, is_word}
+use Rattle.type_skip.specs.Words.{token_of, is_word}
 use Rattle.parse_steps.specs.Classes as classes
 use Rattle.parse_steps.specs.Items.{Item, PrefixUse, in_expression, first_target, later_target, depth, climb}
 use Rattle.parse_steps.specs.Items as item
 use Rattle.parse_steps.specs.Turns.{Turn, stops, stays, takes, turn}
 use Rattle.parse_steps.specs.Turns as turns
 use Rattle.syntax_tree.specs.Openings.{weight}
-use Rattle.parse_steps.proofs.WordTests.{has}
+use Rattle.type_skip.proofs.WordTests.{has}
 use Rattle.parse_steps.proofs.Limits.{Holds, Fits, Keeps, none, same, deeper, le_left, holds_more, fits_more, depth_climb, holds_climb}
 
 -- ---- turns of one form

@@ -1,4 +1,3 @@
-pub mod WordTests
 pub mod Together
 pub mod Limits
 pub mod Kept

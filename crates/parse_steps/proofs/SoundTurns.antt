@@ -22,14 +22,14 @@ use Rattle.parse_steps.specs.declared.levels.Level.{Level}
 use Rattle.parse_steps.specs.declared.levels.Level.TheVariants as levels
 use Rattle.parse_steps.specs.declared.levels.Rank.{Rank}
 use Rattle.parse_steps.specs.declared.levels.Rank.TheVariants as rank
-use Rattle.parse_steps.specs.declared.words.Word.{Word}
-use Rattle.parse_steps.specs.declared.words.Word.TheVariants as word
+use Rattle.type_skip.specs.declared.words.Word.{Word}
+use Rattle.type_skip.specs.declared.words.Word.TheVariants as word
 use Rattle.parse_steps.specs.Classes as classes
 use Rattle.parse_steps.specs.Items.{Item, PrefixUse, in_expression, first_target, later_target, climb}
 use Rattle.parse_steps.specs.Items as item
 use Rattle.parse_steps.specs.Levels.{rank_of}
 use Rattle.parse_steps.specs.Turns.{Turn, turn, stops, stays, takes, word_or, name_turn, unary_turn, simple_turn, operations_turn, arguments_turn, prefix_turn, suffix_turn, parameter_turn, ending_turn, return_turn, named_stat, after_continue, after_type, after_export, after_name, block_turn, target_turn, fields_turn}
-use Rattle.parse_steps.specs.Words.{is_word}
+use Rattle.type_skip.specs.Words.{is_word}
 use Rattle.parse_steps.proofs.Completing.{first, closing, closing_list, fits, Sound, list_closes, block_closes_list, block_closes, closes_type}
 
 -- what a turn leaves is sound

@@ -8,14 +8,14 @@ use Rattle.syntax_tree.specs.Words.{continue_name, type_name, export_name}
 use Rattle.type_skip.proofs.Ends.{type_ends}
 use Rattle.type_skip.proofs.GoingOn.{has_within}
 use Rattle.parse_steps.specs.declared.levels.Rank.TheVariants as rank
-use Rattle.parse_steps.specs.declared.words.Word.{Word}
+use Rattle.type_skip.specs.declared.words.Word.{Word}
 use Rattle.parse_steps.specs.Items.{Item, PrefixUse, in_expression, first_target, later_target}
 use Rattle.parse_steps.specs.Items as item
 use Rattle.parse_steps.specs.Steps as steps
 use Rattle.parse_steps.specs.Steps.{Runs}
 use Rattle.parse_steps.specs.Turns.{Turn, turn, stops, stays, takes, named_stat}
-use Rattle.parse_steps.specs.Words.{token_of, is_word}
-use Rattle.parse_steps.proofs.WordTests.{has}
+use Rattle.type_skip.specs.Words.{token_of, is_word}
+use Rattle.type_skip.proofs.WordTests.{has}
 
 -- no token is taken
 abbrev pub quiet : Turn → Bool

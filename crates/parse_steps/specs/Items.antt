@@ -2,7 +2,7 @@
 use Rattle.std.specs.Prelude.{ℕ, suc, List, [], ◌∷◌}
 use Rattle.byte_text.specs.declared.StrId.{StrId}
 use Rattle.syntax_tree.specs.Grammar.{PrefixEnd}
-use Rattle.parse_steps.specs.declared.words.Word.{Word}
+use Rattle.type_skip.specs.declared.words.Word.{Word}
 use Rattle.parse_steps.specs.declared.levels.Rank.{Rank}
 use Rattle.parse_steps.specs.declared.levels.Rank.TheVariants as rank
 use Rattle.parse_steps.specs.declared.levels.Level.{Level}

@@ -1,4 +1,3 @@
-pub mod Words
 pub mod Levels
 pub mod Classes
 pub mod Items

@@ -22,13 +22,13 @@ use Rattle.parse_steps.specs.declared.classes.Opening.TheVariants as opens
 use Rattle.parse_steps.specs.declared.levels.Level.TheVariants as levels
 use Rattle.parse_steps.specs.declared.levels.Rank.{Rank}
 use Rattle.parse_steps.specs.declared.levels.Rank.TheVariants as rank
-use Rattle.parse_steps.specs.declared.words.Word.{Word}
-use Rattle.parse_steps.specs.declared.words.Word.TheVariants as word
+use Rattle.type_skip.specs.declared.words.Word.{Word}
+use Rattle.type_skip.specs.declared.words.Word.TheVariants as word
 use Rattle.parse_steps.specs.Classes as classes
 use Rattle.parse_steps.specs.Items.{PrefixUse, in_expression, first_target, later_target, Item, depth, climb, expression}
 use Rattle.parse_steps.specs.Items as item
 use Rattle.parse_steps.specs.Levels.{rank_of, next}
-use Rattle.parse_steps.specs.Words.{is_word}
+use Rattle.type_skip.specs.Words.{is_word}
 
 pub data Turn : Type 0 where
   -- the token cannot stand here

@@ -4,7 +4,7 @@ ghost use Rattle.std.specs.Prelude.{◌≡◌, ◌<◌, ◌^◌, length, OnSome}
 ghost use Rattle.syntax_tree.specs.Places.{kind_at};
 ghost use Rattle.parse_steps.specs.Classes.{name_of, middle_of, end_of, beginning, suffix, arguments, opening};
 
-use crate::words::kind_at;
+use type_skip::kind_at;
 use byte_text::StrId;
 use syntax_tree::{Token, TokenKind};
 

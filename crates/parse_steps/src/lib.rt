@@ -5,7 +5,6 @@ mod classes;
 mod laws;
 mod levels;
 mod operators;
-mod words;
 
 pub use classes::{
     Arguments, Beginning, Opening, Suffix, arguments_at, beginning_at, end_at, middle_at, name_at,
@@ -17,4 +16,3 @@ pub use laws::{
 };
 pub use levels::{Level, Rank, next_level};
 pub use operators::{compound_at, operator_at, unary_at};
-pub use words::{Word, kind_at, stands};

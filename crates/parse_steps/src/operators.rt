@@ -6,7 +6,7 @@ ghost use Rattle.syntax_tree.specs.Operators.{operator, unary_operator, compound
 ghost use Rattle.parse_steps.specs.Levels.{rank_of};
 
 use crate::levels::Rank;
-use crate::words::kind_at;
+use type_skip::kind_at;
 use syntax_tree::{BinOp, Token, TokenKind, UnOp};
 
 /// The binary operator of a level at a place, where one stands.

@@ -2,13 +2,14 @@
 
 use byte_text::StrId;
 use parse_steps::{
-    Arguments, Beginning, Level, Opening, Rank, Suffix, Word, arguments_at, beginning_at,
-    calls_are_asked, calls_can_open, compound_at, depth_is_counted, end_at, kind_at, middle_at,
-    name_at, next_level, opening_at, operator_at, runs_are_shallow, runs_have_one_end, stands,
-    suffix_at, trees_run, unary_at,
+    Arguments, Beginning, Level, Opening, Rank, Suffix, arguments_at, beginning_at,
+    calls_are_asked, calls_can_open, compound_at, depth_is_counted, end_at, middle_at, name_at,
+    next_level, opening_at, operator_at, runs_are_shallow, runs_have_one_end, suffix_at, trees_run,
+    unary_at,
 };
 use std::test::Fail;
 use syntax_tree::{BinOp, Token, TokenKind, UnOp};
+use type_skip::{Word, kind_at, stands};
 
 fn token(kind: TokenKind) -> Token {
     Token {

@@ -11,7 +11,7 @@ use syntax_tree::{Bindings, Bound, Tree};
 fn tree(alloc: Global, text: &[u8]) -> Result<Tree, Fail> {
     let mut names = Interner::new(alloc);
     match lex(alloc, text, &mut names) {
-        Ok(tokens) => match parse(alloc, tokens.as_slice()) {
+        Ok(tokens) => match parse(alloc, tokens.as_slice(), &mut names) {
             Ok(tree) => Ok(tree),
             Err(_) => Err(Fail::from("no tree")),
         },

@@ -7,6 +7,7 @@ use Rattle.syntax_tree.specs.declared.tree.Tree.{Tree}
 use Rattle.syntax_tree.specs.Places.{kind_at}
 use Rattle.syntax_tree.specs.Grammar.{IsBlock}
 use Rattle.syntax_tree.specs.Numbers.{numbered}
+use Rattle.syntax_tree.specs.Proper.{IsProper}
 
 -- the main function: its place is 0 and its line 1, and it takes any arguments
 abbrev pub main_function : List Stat → FuncBody
@@ -27,3 +28,7 @@ pub record Derives (ts : List Token) (tree : Tree) : Type 0 where
 -- a token list has at most one tree
 abbrev pub TreesAreOne : Type 0
 TreesAreOne = (ts : List Token) (tree other : Tree) → Derives ts tree → Derives ts other → tree ≡ other
+
+-- each tree that derives is proper
+abbrev pub TreesAreProper : Type 0
+TreesAreProper = (ts : List Token) (tree : Tree) → Derives ts tree → IsProper tree

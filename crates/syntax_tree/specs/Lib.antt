@@ -23,6 +23,7 @@ pub mod Operators
 pub mod Parsed
 pub mod Places
 pub mod Plain
+pub mod Proper
 pub mod Rules
 pub mod Scope
 pub mod Sizes

@@ -1,5 +1,5 @@
 -- Which tokens have a tree that is not too deep and has no ambiguous call, and why and where others are refused.
-use Rattle.std.specs.Prelude.{◌≡◌, ℕ, ◌+◌, ◌<◌, ◌≤◌, List, Some, ◌⊎◌}
+use Rattle.std.specs.Prelude.{◌≡◌, ℕ, ◌+◌, ◌<◌, ◌≤◌, List, length, Some, ◌⊎◌}
 use Rattle.syntax_tree.specs.declared.fault.Cause.{Cause}
 use Rattle.syntax_tree.specs.declared.fault.Cause.TheVariants as cause
 use Rattle.syntax_tree.specs.declared.fault.Refusal.{Refusal}
@@ -28,10 +28,20 @@ HasClearCalls ts = (i : ℕ) → IsLateCall ts i → ⊥
 abbrev pub IsParsed : List Token → Tree → Type 0
 IsParsed ts tree = IsShallow ts tree × HasClearCalls ts
 
--- No tree derives, and no tokens with a tree begin with those up to and including this one; or the tokens end here.
-pub record IsUnexpected (ts : List Token) (at : ℕ) : Type 0 where
-  pub no_tree : (tree : Tree) → Derives ts tree → ⊥
-  pub place : ((k : ℕ) × (offset_at ts k ≡ Some at) × ((us : List Token) (tree : Tree) → BeginsAs ts (k + 1) us → Derives us tree → ⊥)) ⊎ (at ≡ end_of ts)
+-- No tokens that begin with those up to and including token k have a tree, and it is the first such token: those before it go on to a
+-- tree.
+pub record IsFirstWrong (ts : List Token) (k : ℕ) : Type 0 where
+  pub none : (us : List Token) (tree : Tree) → BeginsAs ts (k + 1) us → Derives us tree → ⊥
+  pub before : (us : List Token) × (tree : Tree) × BeginsAs ts k us × Derives us tree
+
+-- No tree derives, but the tokens go on to one.
+pub record EndsEarly (ts : List Token) : Type 0 where
+  pub none : (tree : Tree) → Derives ts tree → ⊥
+  pub before : (us : List Token) × (tree : Tree) × BeginsAs ts (length ts) us × Derives us tree
+
+-- with the offset of the token, or the end of the last one
+abbrev pub IsUnexpected : List Token → (at : ℕ) → Type 0
+IsUnexpected ts at = ((k : ℕ) × (offset_at ts k ≡ Some at) × IsFirstWrong ts k) ⊎ (EndsEarly ts × (at ≡ end_of ts))
 
 -- More opening tokens than may nest stand up to this one, and no tokens that begin with those up to and including it have a tree that is
 -- not too deep.

@@ -18,6 +18,7 @@
 -- opens arguments or generics; between the parentheses of `typeof` a `<` is an operator.
 use Rattle.std.specs.Prelude.{◌≡◌, ℕ, suc, ◌+◌, Bool, true, false, ◌&&◌, IsTrue, IsFalse, List, Option, Some, None}
 use Rattle.byte_text.specs.declared.StrId.{StrId}
+use Rattle.byte_text.specs.declared.fixed.TheConstants.StrId as fixed
 use Rattle.syntax_tree.specs.declared.token.Token.{Token}
 use Rattle.syntax_tree.specs.declared.token.TokenKind.{TokenKind}
 use Rattle.syntax_tree.specs.declared.token.TokenKind.TheVariants as token
@@ -25,7 +26,7 @@ use Rattle.syntax_tree.specs.Places.{kind_at, Has, Lacks, is_name, is_named, Opt
 
 -- the number of the text `typeof` in every interner
 abbrev pub typeof_name : StrId
-typeof_name = record { 0 = 0 }
+typeof_name = fixed.TYPEOF
 
 abbrev pub is_bar : Option TokenKind → Bool
 is_bar (Some token.Pipe) = true

@@ -1,6 +1,7 @@
 -- What begins or ends at a place: blocks, statements by a word that is a name elsewhere, suffixes and fields.
 use Rattle.std.specs.Prelude.{ℕ, ◌+◌, Bool, true, false, ◌&&◌, ◌||◌, List, [], ◌∷◌, Option, Some, None}
 use Rattle.byte_text.specs.declared.StrId.{StrId}
+use Rattle.byte_text.specs.declared.fixed.TheConstants.StrId as fixed
 use Rattle.syntax_tree.specs.declared.token.Token.{Token}
 use Rattle.syntax_tree.specs.declared.token.TokenKind.{TokenKind}
 use Rattle.syntax_tree.specs.declared.token.TokenKind.TheVariants as token
@@ -10,16 +11,16 @@ use Rattle.syntax_tree.specs.Places.{kind_at, is_name, is_named}
 
 -- the numbers of these texts in every interner
 abbrev pub self_name : StrId
-self_name = record { 0 = 1 }
+self_name = fixed.SELF
 
 abbrev pub continue_name : StrId
-continue_name = record { 0 = 2 }
+continue_name = fixed.CONTINUE
 
 abbrev pub type_name : StrId
-type_name = record { 0 = 3 }
+type_name = fixed.TYPE
 
 abbrev pub export_name : StrId
-export_name = record { 0 = 4 }
+export_name = fixed.EXPORT
 
 -- what follows a block: `end`, `else`, `elseif`, `until`, or the end of the text
 abbrev pub ends_block : Option TokenKind → Bool

@@ -1,7 +1,7 @@
 pub mod Forward
 pub mod OneType
 pub mod Moved
-pub mod Symbols
+pub mod WordTests
 pub mod Counting
 pub mod Leading
 pub mod Types

@@ -11,8 +11,8 @@ use Rattle.type_skip.specs.declared.fault.Fault.{Fault}
 use Rattle.type_skip.specs.declared.fault.Fault.TheVariants as fault
 use Rattle.type_skip.specs.declared.skipping.TypeErr.{TypeErr}
 use Rattle.type_skip.specs.declared.skipping.TypeErr.TheVariants.{Unexpected, TooDeep}
-use Rattle.type_skip.specs.Reading.{SameBelow, Completes, Reads}
-use Rattle.type_skip.specs.Refusals.{most, OpensTooMany, IsUnexpected, IsTooDeep, Passes}
+use Rattle.type_skip.specs.Reading.{SameBelow, Completes, IsStuck, Reads}
+use Rattle.type_skip.specs.Refusals.{most, IsFirstWrong, EndsEarly, OpensTooMany, IsUnexpected, IsTooDeep, Passes}
 use Rattle.syntax_tree.specs.Places.{offset_at, end_of, BeginsAs}
 use Rattle.type_skip.proofs.OneType.{one_type}
 use Rattle.type_skip.proofs.Leading.{same_self}
@@ -77,38 +77,35 @@ there_or_past ts k (inl less) = inl (within ts k less)
     within (t ∷ ts) (suc k) less = within ts k (omega (arith, less))
 there_or_past ts k (inr more) = inr (more, ap (option_map (λ (t : Token). t.at)) (slice_get_past ts k more))
 
-offset_within : (ts : List Token) (k x : ℕ) → offset_at ts k ≡ Some x → k < length ts
+pub offset_within : (ts : List Token) (k x : ℕ) → offset_at ts k ≡ Some x → k < length ts
 offset_within ts k x h = by_cases (cases_lt k (length ts))
   where
     by_cases : (k < length ts) ⊎ (length ts ≤ k) → k < length ts
     by_cases (inl less) = less
     by_cases (inr more) = let both : None ≡ Some x = sym (ap (option_map (λ (t : Token). t.at)) (slice_get_past ts k more)) ∙ h in absurd cc
 
-unexpected_at : (ts : List Token) (i k : ℕ) → Reads IsType ts most i (Err (fault.Unexpected k)) → ((x : ℕ) × (offset_at ts k ≡ Some x)) ⊎ ((length ts ≤ k) × (offset_at ts k ≡ None)) → IsUnexpected ts i (unwrap_or (offset_at ts k) (end_of ts))
+pub first_wrong : (ts : List Token) (i k : ℕ) → IsStuck IsType ts most i k → k < length ts → IsFirstWrong ts i k
+first_wrong ts i k s less = record {
+  behind = s.from;
+  none = λ us n to e type. s.none us n to (same_kinds ts us (k + 1) e) type;
+  before = goes_on ts most i k (omega (arith, less)) s.before;
+}
+
+pub ends_early : (ts : List Token) (i k : ℕ) → IsStuck IsType ts most i k → length ts ≤ k → EndsEarly ts i
 unfolding goes_on
+ends_early ts i k s past = record {
+  none = λ n to type. s.none ts n to (same_self ts) type;
+  before = λ le.
+      let e : k ≡ length ts = omega (arith, past, s.reached le) in
+      let g = goes_on ts most i k (s.reached le) s.before in
+      let whole : take k ts ≡ ts = ap (λ x. take x ts) e ∙ take-length ts in
+      (of_kinds s.before.kinds, g.1, subst (λ (xs : List Token). IsType (xs ++ of_kinds s.before.kinds) most i g.1) whole g.3);
+}
+
+unexpected_at : (ts : List Token) (i k : ℕ) → Reads IsType ts most i (Err (fault.Unexpected k)) → ((x : ℕ) × (offset_at ts k ≡ Some x)) ⊎ ((length ts ≤ k) × (offset_at ts k ≡ None)) → IsUnexpected ts i (unwrap_or (offset_at ts k) (end_of ts))
 unexpected_at ts i k s (inl there) =
-    let less = offset_within ts k there.0 there.1 in
-    inl (
-      k,
-      there.1 ∙ ap (λ o. Some (unwrap_or o (end_of ts))) (sym there.1),
-      record {
-        behind = s.from;
-        none = λ us n to e type. s.none us n to (same_kinds ts us (k + 1) e) type;
-        before = goes_on ts most i k (omega (arith, less)) s.before;
-      },
-    )
-unexpected_at ts i k s (inr past) =
-    inr (
-      record {
-        none = λ n to type. s.none ts n to (same_self ts) type;
-        before = λ le.
-            let e : k ≡ length ts = omega (arith, past.0, s.reached le) in
-            let g = goes_on ts most i k (s.reached le) s.before in
-            let whole : take k ts ≡ ts = ap (λ x. take x ts) e ∙ take-length ts in
-            (of_kinds s.before.kinds, g.1, subst (λ (xs : List Token). IsType (xs ++ of_kinds s.before.kinds) most i g.1) whole g.3);
-      },
-      ap (λ o. unwrap_or o (end_of ts)) past.1,
-    )
+    inl (k, there.1 ∙ ap (λ o. Some (unwrap_or o (end_of ts))) (sym there.1), first_wrong ts i k s (offset_within ts k there.0 there.1))
+unexpected_at ts i k s (inr past) = inr (ends_early ts i k s past.0, ap (λ o. unwrap_or o (end_of ts)) past.1)
 
 deep_at : (ts : List Token) (i k : ℕ) → Reads IsType ts most i (Err (fault.TooDeep k)) → ((x : ℕ) × (offset_at ts k ≡ Some x)) ⊎ ((length ts ≤ k) × (offset_at ts k ≡ None)) → IsTooDeep ts i (unwrap_or (offset_at ts k) (end_of ts))
 deep_at ts i k d (inr past) = absurd (omega (arith, past.0, d.there))

@@ -11,18 +11,18 @@ use Rattle.type_skip.specs.declared.balanced.Class.{Class}
 use Rattle.type_skip.specs.declared.balanced.Class.TheVariants.{Plain, Begin, Mid, End, Open, Close, Nothing}
 use Rattle.type_skip.specs.declared.balanced.Turn.{Turn}
 use Rattle.type_skip.specs.declared.balanced.Turn.TheVariants.{Pass, Nest, Done, Stuck}
-use Rattle.type_skip.specs.declared.tokens.Symbol.{Symbol}
-use Rattle.type_skip.specs.declared.tokens.Symbol.TheVariants as symbol
+use Rattle.type_skip.specs.declared.words.Word.{Word}
+use Rattle.type_skip.specs.declared.words.Word.TheVariants as word
 use Rattle.type_skip.specs.Brackets.{opens_bracket}
 use Rattle.type_skip.specs.Balance.{class_of, turn_of}
-use Rattle.type_skip.specs.Symbols.{stands, token_of}
+use Rattle.type_skip.specs.Words.{is_word, token_of}
 use Rattle.type_skip.specs.Reading.{SameBelow, ends_type, Writes, IsStuck, IsDeep, IsClosedBalanced, IsClosedStrings}
 use Rattle.type_skip.proofs.Forward.{balanced_forward}
 use Rattle.type_skip.proofs.OneType.{balanced_form, form_b, form_b_is, same_balanced}
 use Rattle.type_skip.proofs.Moved.{move_balanced}
 use Rattle.type_skip.proofs.GoingOn.{past, within, has_within}
 use Rattle.type_skip.proofs.Counting.{bracket_counts, bracket_here}
-use Rattle.type_skip.proofs.Symbols.{has, stands_itself}
+use Rattle.type_skip.proofs.WordTests.{has, is_itself}
 use Rattle.type_skip.proofs.Leading.{LeadsIn, Exactly, ends_first}
 
 -- ---- what a class says of a token
@@ -66,30 +66,30 @@ end_of : (o : Option TokenKind) → class_of o ≡ End → (x : StrId) × (o ≡
 end_of (Some (token.InterpEnd x)) h = (x, refl)
 end_of _ h = absurd cc
 
-abbrev opened_by : Class → Symbol
+abbrev opened_by : Class → Word
 opened_by (Open s) = s
-opened_by _ = symbol.Comma
+opened_by _ = word.Comma
 
-abbrev closed_by : Class → Symbol
+abbrev closed_by : Class → Word
 closed_by (Close s) = s
-closed_by _ = symbol.Comma
+closed_by _ = word.Comma
 
-open_is : (o : Option TokenKind) (s : Symbol) → class_of o ≡ Open s → (closer o ≡ Some (token_of (opened_by (class_of o)))) × IsTrue (is_closer (Some (token_of (opened_by (class_of o)))))
+open_is : (o : Option TokenKind) (s : Word) → class_of o ≡ Open s → (closer o ≡ Some (token_of (opened_by (class_of o)))) × IsTrue (is_closer (Some (token_of (opened_by (class_of o)))))
 open_is (Some token.OpenParen) s h = (refl, refl)
 open_is (Some token.OpenBracket) s h = (refl, refl)
 open_is (Some token.OpenBrace) s h = (refl, refl)
 open_is _ s h = absurd cc
 
-pub open_of : (o : Option TokenKind) (s : Symbol) → class_of o ≡ Open s → (closer o ≡ Some (token_of s)) × IsTrue (is_closer (Some (token_of s)))
-open_of o s h = subst (λ (x : Symbol). (closer o ≡ Some (token_of x)) × IsTrue (is_closer (Some (token_of x)))) (ap opened_by h) (open_is o s h)
+pub open_of : (o : Option TokenKind) (s : Word) → class_of o ≡ Open s → (closer o ≡ Some (token_of s)) × IsTrue (is_closer (Some (token_of s)))
+open_of o s h = subst (λ (x : Word). (closer o ≡ Some (token_of x)) × IsTrue (is_closer (Some (token_of x)))) (ap opened_by h) (open_is o s h)
 
-close_is : (o : Option TokenKind) (s : Symbol) → class_of o ≡ Close s → o ≡ Some (token_of (closed_by (class_of o)))
+close_is : (o : Option TokenKind) (s : Word) → class_of o ≡ Close s → o ≡ Some (token_of (closed_by (class_of o)))
 close_is (Some token.CloseParen) s h = refl
 close_is (Some token.CloseBracket) s h = refl
 close_is (Some token.CloseBrace) s h = refl
 close_is _ s h = absurd cc
 
-close_of : (o : Option TokenKind) (s : Symbol) → class_of o ≡ Close s → o ≡ Some (token_of s)
+close_of : (o : Option TokenKind) (s : Word) → class_of o ≡ Close s → o ≡ Some (token_of s)
 close_of o s h = close_is o s h ∙ ap (λ x. Some (token_of (closed_by x))) h
 
 -- ---- the form at a place
@@ -160,7 +160,7 @@ abbrev count_of : Turn → ℕ
 count_of (Pass n) = n
 count_of _ = 0
 
-passes : (ts : List Token) (c : TokenKind) (close : Symbol) (n s now i : ℕ) (cl : Class) → class_of (kind_at ts i) ≡ cl → turn_of cl s close ≡ Pass now → Exactly (IsClosedStrings s c) (IsClosedStrings now c) ts n i (i + 1)
+passes : (ts : List Token) (c : TokenKind) (close : Word) (n s now i : ℕ) (cl : Class) → class_of (kind_at ts i) ≡ cl → turn_of cl s close ≡ Pass now → Exactly (IsClosedStrings s c) (IsClosedStrings now c) ts n i (i + 1)
 passes ts c close n s now i Plain e h = subst (λ (x : ℕ). Exactly (IsClosedStrings s c) (IsClosedStrings x c) ts n i (i + 1)) (ap count_of h) (pass_plain ts c n s i e)
 passes ts c close n s now i Begin e h = subst (λ (x : ℕ). Exactly (IsClosedStrings s c) (IsClosedStrings x c) ts n i (i + 1)) (ap count_of h) (pass_begin ts c n s i e)
 passes ts c close n zero now i Mid e h = absurd cc
@@ -168,7 +168,7 @@ passes ts c close n (suc s) now i Mid e h = subst (λ (x : ℕ). Exactly (IsClos
 passes ts c close n zero now i End e h = absurd cc
 passes ts c close n (suc s) now i End e h = subst (λ (x : ℕ). Exactly (IsClosedStrings (suc s) c) (IsClosedStrings x c) ts n i (i + 1)) (ap count_of h) (pass_end ts c n s i e)
 passes ts c close n s now i (Open inner) e h = absurd cc
-passes ts c close n zero now i (Close inner) e h = absurd (by_test (stands inner (Some (token_of close))) h)
+passes ts c close n zero now i (Close inner) e h = absurd (by_test (is_word inner (Some (token_of close))) h)
   where
     by_test : (b : Bool) → cond b Done Stuck ≡ Pass now → ⊥
     by_test true h = cc
@@ -176,10 +176,10 @@ passes ts c close n zero now i (Close inner) e h = absurd (by_test (stands inner
 passes ts c close n (suc s) now i (Close inner) e h = absurd cc
 passes ts c close n s now i Nothing e h = absurd cc
 
-pub pass : (ts : List Token) (c : TokenKind) (close : Symbol) (n s now i : ℕ) → turn_of (class_of (kind_at ts i)) s close ≡ Pass now → Exactly (IsClosedStrings s c) (IsClosedStrings now c) ts n i (i + 1)
+pub pass : (ts : List Token) (c : TokenKind) (close : Word) (n s now i : ℕ) → turn_of (class_of (kind_at ts i)) s close ≡ Pass now → Exactly (IsClosedStrings s c) (IsClosedStrings now c) ts n i (i + 1)
 pass ts c close n s now i h = passes ts c close n s now i (class_of (kind_at ts i)) refl h
 
-count_grows : (cl : Class) (close : Symbol) (s now : ℕ) → turn_of cl s close ≡ Pass now → now ≤ s + 1
+count_grows : (cl : Class) (close : Word) (s now : ℕ) → turn_of cl s close ≡ Pass now → now ≤ s + 1
 count_grows Plain close s now h = omega (arith, ap count_of h)
 count_grows Begin close s now h = omega (arith, ap count_of h)
 count_grows Mid close zero now h = absurd cc
@@ -187,7 +187,7 @@ count_grows Mid close (suc s) now h = omega (arith, ap count_of h)
 count_grows End close zero now h = absurd cc
 count_grows End close (suc s) now h = omega (arith, ap count_of h)
 count_grows (Open inner) close s now h = absurd cc
-count_grows (Close inner) close zero now h = absurd (by_test (stands inner (Some (token_of close))) h)
+count_grows (Close inner) close zero now h = absurd (by_test (is_word inner (Some (token_of close))) h)
   where
     by_test : (b : Bool) → cond b Done Stuck ≡ Pass now → ⊥
     by_test true h = cc
@@ -195,12 +195,12 @@ count_grows (Close inner) close zero now h = absurd (by_test (stands inner (Some
 count_grows (Close inner) close (suc s) now h = absurd cc
 count_grows Nothing close s now h = absurd cc
 
-pub pass_count : (ts : List Token) (close : Symbol) (s now i : ℕ) → turn_of (class_of (kind_at ts i)) s close ≡ Pass now → now ≤ s + 1
+pub pass_count : (ts : List Token) (close : Word) (s now i : ℕ) → turn_of (class_of (kind_at ts i)) s close ≡ Pass now → now ≤ s + 1
 pass_count ts close s now i h = count_grows (class_of (kind_at ts i)) close s now h
 
 -- ---- the bracket around the tokens
 
-done_of : (o : Option TokenKind) (s : ℕ) (close : Symbol) (cl : Class) → class_of o ≡ cl → turn_of cl s close ≡ Done → (s ≡ 0) × (o ≡ Some (token_of close))
+done_of : (o : Option TokenKind) (s : ℕ) (close : Word) (cl : Class) → class_of o ≡ cl → turn_of cl s close ≡ Done → (s ≡ 0) × (o ≡ Some (token_of close))
 done_of o s close Plain e h = absurd cc
 done_of o s close Begin e h = absurd cc
 done_of o zero close Mid e h = absurd cc
@@ -208,15 +208,15 @@ done_of o (suc s) close Mid e h = absurd cc
 done_of o zero close End e h = absurd cc
 done_of o (suc s) close End e h = absurd cc
 done_of o s close (Open inner) e h = absurd cc
-done_of o zero close (Close inner) e h = (refl, close_of o inner e ∙ sym (by_test (stands inner (Some (token_of close))) refl h))
+done_of o zero close (Close inner) e h = (refl, close_of o inner e ∙ sym (by_test (is_word inner (Some (token_of close))) refl h))
   where
-    by_test : (b : Bool) → stands inner (Some (token_of close)) ≡ b → cond b Done Stuck ≡ Done → Some (token_of close) ≡ Some (token_of inner)
+    by_test : (b : Bool) → is_word inner (Some (token_of close)) ≡ b → cond b Done Stuck ≡ Done → Some (token_of close) ≡ Some (token_of inner)
     by_test true e h = has inner (Some (token_of close)) e
     by_test false e h = absurd cc
 done_of o (suc s) close (Close inner) e h = absurd cc
 done_of o s close Nothing e h = absurd cc
 
-pub done : (ts : List Token) (close : Symbol) (n s i : ℕ) → IsTrue (is_closer (Some (token_of close))) → turn_of (class_of (kind_at ts i)) s close ≡ Done → IsClosedStrings s (token_of close) ts n i (i + 1)
+pub done : (ts : List Token) (close : Word) (n s i : ℕ) → IsTrue (is_closer (Some (token_of close))) → turn_of (class_of (kind_at ts i)) s close ≡ Done → IsClosedStrings s (token_of close) ts n i (i + 1)
 done ts close n s i closes h =
     let d = done_of (kind_at ts i) s close (class_of (kind_at ts i)) refl h in
     record {
@@ -257,13 +257,13 @@ class_within ts i cl e ne = by_cases (cases_lt i (length ts))
     by_cases (inl less) = less
     by_cases (inr more) = absurd (ne (sym (ap class_of (past ts i more)) ∙ e))
 
-class_bracket : (o : Option TokenKind) (s : Symbol) → class_of o ≡ Open s → IsTrue (opens_bracket o)
+class_bracket : (o : Option TokenKind) (s : Word) → class_of o ≡ Open s → IsTrue (opens_bracket o)
 class_bracket (Some token.OpenParen) s h = refl
 class_bracket (Some token.OpenBracket) s h = refl
 class_bracket (Some token.OpenBrace) s h = refl
 class_bracket _ s h = absurd cc
 
-nested : (us : List Token) (c : TokenKind) (inner : Symbol) (m s i j e : ℕ) → class_of (kind_at us i) ≡ Open inner → IsClosedBalanced (token_of inner) us m (i + 1) j → IsClosedStrings s c us (suc m) j e → IsClosedStrings s c us (suc m) i e
+nested : (us : List Token) (c : TokenKind) (inner : Word) (m s i j e : ℕ) → class_of (kind_at us i) ≡ Open inner → IsClosedBalanced (token_of inner) us m (i + 1) j → IsClosedStrings s c us (suc m) j e → IsClosedStrings s c us (suc m) i e
 nested us c inner m s i j e h q p =
     let o = open_of (kind_at us i) inner h in
     with_strings p (bracket m s i q.place p.place (token_of inner) o.0 q.inside q.closed (subst (λ (x : ℕ). IsBalanced us (suc m) s x p.place) q.behind p.inside))
@@ -272,7 +272,7 @@ in_bracket : {us : List Token} {m s i j : ℕ} (inner : TokenKind) (b : IsBalanc
 in_bracket inner (bracket n s i j k c h b g d) f e = (n, j, refl, b, g ∙ sym h ∙ e, d)
 in_bracket inner _ f e = absurd (omega (arith, f))
 
-pub nest_leads : (ts : List Token) (c : TokenKind) (inner : Symbol) (n s i : ℕ) → IsTrue (is_closer (Some c)) → class_of (kind_at ts i) ≡ Open inner → LeadsIn (IsClosedStrings s c) (IsClosedBalanced (token_of inner)) (tails s c) ts n i (i + 1)
+pub nest_leads : (ts : List Token) (c : TokenKind) (inner : Word) (n s i : ℕ) → IsTrue (is_closer (Some c)) → class_of (kind_at ts i) ≡ Open inner → LeadsIn (IsClosedStrings s c) (IsClosedBalanced (token_of inner)) (tails s c) ts n i (i + 1)
 nest_leads ts c inner n s i closes h = record {
   from = omega arith;
   opened = bracket_counts ts i i (i + 1) (omega arith) (omega arith) (class_bracket (kind_at ts i) inner h);
@@ -294,11 +294,11 @@ moved_closed ts us c n m i j k q le more same = record {
   behind = q.behind;
 }
 
-nested_any : (ts us : List Token) (c : TokenKind) (inner : Symbol) (n m s i j e : ℕ) → suc n ≤ m → SameBelow j ts us → class_of (kind_at us i) ≡ Open inner → IsClosedBalanced (token_of inner) ts n (i + 1) j → IsClosedStrings s c us m j e → IsClosedStrings s c us m i e
+nested_any : (ts us : List Token) (c : TokenKind) (inner : Word) (n m s i j e : ℕ) → suc n ≤ m → SameBelow j ts us → class_of (kind_at us i) ≡ Open inner → IsClosedBalanced (token_of inner) ts n (i + 1) j → IsClosedStrings s c us m j e → IsClosedStrings s c us m i e
 nested_any ts us c inner n zero s i j e le same h q p = absurd (omega (arith, le))
 nested_any ts us c inner n (suc m) s i j e le same h q p = nested us c inner m s i j e h (moved_closed ts us (token_of inner) n m (i + 1) j j q (omega (arith, le)) (omega arith) same) p
 
-pub nest_exactly : (ts : List Token) (c : TokenKind) (inner : Symbol) (n s i j : ℕ) → class_of (kind_at ts i) ≡ Open inner → IsClosedBalanced (token_of inner) ts n (i + 1) j → Exactly (IsClosedStrings s c) (IsClosedStrings s c) ts (suc n) i j
+pub nest_exactly : (ts : List Token) (c : TokenKind) (inner : Word) (n s i j : ℕ) → class_of (kind_at ts i) ≡ Open inner → IsClosedBalanced (token_of inner) ts n (i + 1) j → Exactly (IsClosedStrings s c) (IsClosedStrings s c) ts (suc n) i j
 nest_exactly ts c inner n s i j h q =
     let f = balanced_forward q.inside in
     let less : i < j = omega (arith, f, q.behind) in
@@ -322,7 +322,7 @@ no_room_balanced (interp_begin n s i j x h b) = omega arith
 no_room_balanced (interp_mid n s i j x h b) = omega arith
 no_room_balanced (interp_end n s i j x h b) = omega arith
 
-deep_nest_0 : (ts : List Token) (c : TokenKind) (inner : Symbol) (s i : ℕ) → IsTrue (is_closer (Some c)) → class_of (kind_at ts i) ≡ Open inner → i < length ts → IsDeep (IsClosedStrings s c) ts zero i i
+deep_nest_0 : (ts : List Token) (c : TokenKind) (inner : Word) (s i : ℕ) → IsTrue (is_closer (Some c)) → class_of (kind_at ts i) ≡ Open inner → i < length ts → IsDeep (IsClosedStrings s c) ts zero i i
 deep_nest_0 ts c inner s i closes h there = record {
   from = omega arith;
   many = bracket_here ts i i (omega arith) (class_bracket (kind_at ts i) inner h);
@@ -339,11 +339,11 @@ deep_nest_0 ts c inner s i closes h there = record {
   };
 }
 
-pub deep_nest : (ts : List Token) (c : TokenKind) (inner : Symbol) (n s i : ℕ) → n ≡ 0 → IsTrue (is_closer (Some c)) → class_of (kind_at ts i) ≡ Open inner → i < length ts → IsDeep (IsClosedStrings s c) ts n i i
+pub deep_nest : (ts : List Token) (c : TokenKind) (inner : Word) (n s i : ℕ) → n ≡ 0 → IsTrue (is_closer (Some c)) → class_of (kind_at ts i) ≡ Open inner → i < length ts → IsDeep (IsClosedStrings s c) ts n i i
 deep_nest ts c inner n s i e closes h there = subst (λ (x : ℕ). IsDeep (IsClosedStrings s c) ts x i i) (sym e) (deep_nest_0 ts c inner s i closes h there)
 
 -- the bracket that opens
-nest_class : (cl : Class) (close inner : Symbol) (s : ℕ) → turn_of cl s close ≡ Nest inner → cl ≡ Open inner
+nest_class : (cl : Class) (close inner : Word) (s : ℕ) → turn_of cl s close ≡ Nest inner → cl ≡ Open inner
 nest_class Plain close inner s h = absurd cc
 nest_class Begin close inner s h = absurd cc
 nest_class Mid close inner zero h = absurd cc
@@ -351,7 +351,7 @@ nest_class Mid close inner (suc s) h = absurd cc
 nest_class End close inner zero h = absurd cc
 nest_class End close inner (suc s) h = absurd cc
 nest_class (Open x) close inner s h = cc
-nest_class (Close x) close inner zero h = absurd (by_test (stands x (Some (token_of close))) h)
+nest_class (Close x) close inner zero h = absurd (by_test (is_word x (Some (token_of close))) h)
   where
     by_test : (b : Bool) → cond b Done Stuck ≡ Nest inner → ⊥
     by_test true h = cc
@@ -359,15 +359,15 @@ nest_class (Close x) close inner zero h = absurd (by_test (stands x (Some (token
 nest_class (Close x) close inner (suc s) h = absurd cc
 nest_class Nothing close inner s h = absurd cc
 
-pub nests : (ts : List Token) (close inner : Symbol) (s i : ℕ) → turn_of (class_of (kind_at ts i)) s close ≡ Nest inner → class_of (kind_at ts i) ≡ Open inner
+pub nests : (ts : List Token) (close inner : Word) (s i : ℕ) → turn_of (class_of (kind_at ts i)) s close ≡ Nest inner → class_of (kind_at ts i) ≡ Open inner
 nests ts close inner s i h = nest_class (class_of (kind_at ts i)) close inner s h
 
 -- ---- nothing goes on
 
-closes_itself : (close : Symbol) → IsTrue (is_closer (Some (token_of close))) → class_of (Some (token_of close)) ≡ Close close
-closes_itself symbol.CloseParen h = refl
-closes_itself symbol.CloseBracket h = refl
-closes_itself symbol.CloseBrace h = refl
+closes_itself : (close : Word) → IsTrue (is_closer (Some (token_of close))) → class_of (Some (token_of close)) ≡ Close close
+closes_itself word.CloseParen h = refl
+closes_itself word.CloseBracket h = refl
+closes_itself word.CloseBrace h = refl
 closes_itself _ h = absurd (true≢false (sym h))
 
 class_plain : (o : Option TokenKind) → IsTrue (is_plain o) → class_of o ≡ Plain
@@ -383,16 +383,16 @@ class_plain (Some (token.InterpMid x)) h = absurd (true≢false (sym h))
 class_plain (Some (token.InterpEnd x)) h = absurd (true≢false (sym h))
 class_plain (Some _) h = refl
 
-class_opener : (o : Option TokenKind) (c : TokenKind) → closer o ≡ Some c → (inner : Symbol) × (class_of o ≡ Open inner)
-class_opener (Some token.OpenParen) c h = (symbol.CloseParen, refl)
-class_opener (Some token.OpenBracket) c h = (symbol.CloseBracket, refl)
-class_opener (Some token.OpenBrace) c h = (symbol.CloseBrace, refl)
+class_opener : (o : Option TokenKind) (c : TokenKind) → closer o ≡ Some c → (inner : Word) × (class_of o ≡ Open inner)
+class_opener (Some token.OpenParen) c h = (word.CloseParen, refl)
+class_opener (Some token.OpenBracket) c h = (word.CloseBracket, refl)
+class_opener (Some token.OpenBrace) c h = (word.CloseBrace, refl)
 class_opener _ c h = absurd cc
 
-goes_on : (us : List Token) (close : Symbol) (n s i j : ℕ) → IsTrue (is_closer (Some (token_of close))) → IsBalanced us n s i j → Has us j (token_of close) → turn_of (class_of (kind_at us i)) s close ≡ Stuck → ⊥
+goes_on : (us : List Token) (close : Word) (n s i j : ℕ) → IsTrue (is_closer (Some (token_of close))) → IsBalanced us n s i j → Has us j (token_of close) → turn_of (class_of (kind_at us i)) s close ≡ Stuck → ⊥
 goes_on us close n s i j closes (balanced m k h) there stuck =
     let cl = ap class_of there ∙ closes_itself close closes in
-    let turn : turn_of (class_of (kind_at us k)) 0 close ≡ Done = ap (λ x. turn_of x 0 close) cl ∙ ap (λ b. cond b Done Stuck) (stands_itself close) in
+    let turn : turn_of (class_of (kind_at us k)) 0 close ≡ Done = ap (λ x. turn_of x 0 close) cl ∙ ap (λ b. cond b Done Stuck) (is_itself close) in
     let both : Done ≡ Stuck = sym turn ∙ stuck in
     cc
 goes_on us close n s i j closes (plain m t k l h b) there stuck =
@@ -412,7 +412,7 @@ goes_on us close n s i j closes (bracket m t k l q c h b g d) there stuck =
     let both : Nest o.0 ≡ Stuck = sym (ap (λ x. turn_of x t close) o.1) ∙ stuck in
     cc
 
-pub stuck_balanced : (ts : List Token) (close : Symbol) (n s i : ℕ) → IsTrue (is_closer (Some (token_of close))) → turn_of (class_of (kind_at ts i)) s close ≡ Stuck → IsStuck (IsClosedStrings s (token_of close)) ts n i i
+pub stuck_balanced : (ts : List Token) (close : Word) (n s i : ℕ) → IsTrue (is_closer (Some (token_of close))) → turn_of (class_of (kind_at ts i)) s close ≡ Stuck → IsStuck (IsClosedStrings s (token_of close)) ts n i i
 stuck_balanced ts close n s i closes h = record {
   from = omega arith;
   reached = λ le. le;
@@ -422,7 +422,7 @@ stuck_balanced ts close n s i closes h = record {
 
 -- ---- a token stands there
 
-pub turns_within : (ts : List Token) (i s : ℕ) (close : Symbol) → turn_of (class_of (kind_at ts i)) s close ≢ Stuck → i < length ts
+pub turns_within : (ts : List Token) (i s : ℕ) (close : Word) → turn_of (class_of (kind_at ts i)) s close ≢ Stuck → i < length ts
 turns_within ts i s close goes = by_cases (cases_lt i (length ts))
   where
     by_cases : (i < length ts) ⊎ (length ts ≤ i) → i < length ts

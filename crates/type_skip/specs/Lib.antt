@@ -2,4 +2,4 @@ pub mod Balance
 pub mod Brackets
 pub mod Reading
 pub mod Refusals
-pub mod Symbols
+pub mod Words

@@ -5,10 +5,10 @@ ghost use Rattle.syntax_tree.specs.Places.{kind_at};
 ghost use Rattle.syntax_tree.specs.Types.{is_closer};
 ghost use Rattle.type_skip.specs.Reading.{Reads, IsClosedBalanced};
 ghost use Rattle.type_skip.specs.Balance.{class_of, turn_of};
-ghost use Rattle.type_skip.specs.Symbols.{token_of, stands};
+ghost use Rattle.type_skip.specs.Words.{token_of, is_word};
 
 use crate::fault::{Fault, opened};
-use crate::tokens::{Symbol, kind_at};
+use crate::words::{Word, kind_at};
 use syntax_tree::{Token, TokenKind};
 
 /// What a token is among balanced ones.
@@ -20,8 +20,8 @@ pub(crate) enum Class {
     Mid,
     End,
     /// A bracket that opens, with the one that closes what it opens.
-    Open(Symbol),
-    Close(Symbol),
+    Open(Word),
+    Close(Word),
     /// There is no token.
     Nothing,
 }
@@ -32,7 +32,7 @@ pub(crate) enum Turn {
     /// A token is passed; so many interpolated strings are not at their end then.
     Pass(usize),
     /// A bracket opens, which this one closes.
-    Nest(Symbol),
+    Nest(Word),
     /// The bracket around the tokens closes.
     Done,
     /// No balanced tokens go on so.
@@ -43,7 +43,7 @@ pub(crate) enum Turn {
 pub(crate) fn balanced_end(
     tokens: &[Token],
     at: usize,
-    close: Symbol,
+    close: Word,
     room: usize,
 ) -> Result<usize, Fault>
     requires { IsTrue (is_closer (Some (token_of close))) }
@@ -79,12 +79,12 @@ fn class_of(kind: TokenKind) -> Class
     ensures { result ≡ class_of (Some kind) }
 {
     match kind {
-        TokenKind::OpenParen => Class::Open(Symbol::CloseParen),
-        TokenKind::OpenBracket => Class::Open(Symbol::CloseBracket),
-        TokenKind::OpenBrace => Class::Open(Symbol::CloseBrace),
-        TokenKind::CloseParen => Class::Close(Symbol::CloseParen),
-        TokenKind::CloseBracket => Class::Close(Symbol::CloseBracket),
-        TokenKind::CloseBrace => Class::Close(Symbol::CloseBrace),
+        TokenKind::OpenParen => Class::Open(Word::CloseParen),
+        TokenKind::OpenBracket => Class::Open(Word::CloseBracket),
+        TokenKind::OpenBrace => Class::Open(Word::CloseBrace),
+        TokenKind::CloseParen => Class::Close(Word::CloseParen),
+        TokenKind::CloseBracket => Class::Close(Word::CloseBracket),
+        TokenKind::CloseBrace => Class::Close(Word::CloseBrace),
         TokenKind::InterpBegin(_) => Class::Begin,
         TokenKind::InterpMid(_) => Class::Mid,
         TokenKind::InterpEnd(_) => Class::End,
@@ -93,7 +93,7 @@ fn class_of(kind: TokenKind) -> Class
 }
 
 /// How balanced tokens go on, where so many interpolated strings are not at their end.
-fn next_turn(class: Class, strings: usize, close: Symbol) -> Turn
+fn next_turn(class: Class, strings: usize, close: Word) -> Turn
     requires { strings + 1 < 2 ^ 64 }
     ensures { result ≡ turn_of class strings close }
 {
@@ -111,8 +111,8 @@ fn next_turn(class: Class, strings: usize, close: Symbol) -> Turn
 }
 
 /// Whether two symbols are the same.
-fn is_same(a: Symbol, b: Symbol) -> bool
-    ensures { result ≡ stands a (Some (token_of b)) }
+fn is_same(a: Word, b: Word) -> bool
+    ensures { result ≡ is_word a (Some (token_of b)) }
 {
     a == b
 }

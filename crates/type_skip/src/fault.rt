@@ -2,10 +2,10 @@
 
 ghost use Rattle.std.specs.Prelude.{◌≡◌, ◌+◌, MatchResult};
 ghost use Rattle.syntax_tree.specs.Places.{Has, Lacks};
-ghost use Rattle.type_skip.specs.Symbols.{token_of};
+ghost use Rattle.type_skip.specs.Words.{token_of};
 ghost use Rattle.type_skip.specs.declared.fault.Fault.TheVariants.{Unexpected, TooDeep};
 
-use crate::tokens::{Symbol, stands};
+use crate::words::{Word, stands};
 use syntax_tree::Token;
 
 /// Why a part of a type cannot be read, with the place of its token in the token list.
@@ -29,7 +29,7 @@ pub(crate) fn opened(at: usize, room: usize) -> Result<usize, Fault>
 }
 
 /// The place behind a symbol, which is to stand there.
-pub(crate) fn closed(tokens: &[Token], at: usize, close: Symbol) -> Result<usize, Fault>
+pub(crate) fn closed(tokens: &[Token], at: usize, close: Word) -> Result<usize, Fault>
     ensures { MatchResult result (λ behind. Has tokens.now at (token_of close) × (behind ≡ at + 1)) (λ e. Lacks tokens.now at (token_of close) × (e ≡ Unexpected at)) }
 {
     if stands(tokens, at, close) {

@@ -7,14 +7,14 @@ ghost use Rattle.syntax_tree.specs.Places.{kind_at, Has, Lacks, is_name};
 ghost use Rattle.syntax_tree.specs.Types.{IsType, IsAtom, IsArguments, IsItem, IsField, IsGeneric, IsDefault, opens_typeof};
 ghost use Rattle.syntax_tree.specs.declared.token.TokenKind.TheVariants.{OpenBrace, Less, OpenParen};
 ghost use Rattle.type_skip.specs.Reading.{ends_type, Reads, ReadsAs, IsStep, IsHead, IsOpened, IsEntered, IsMemberAt, IsBehindBar, IsClosedItems, IsClosedItemList, IsClosedFields, IsClosedGenerics};
-ghost use Rattle.type_skip.specs.Symbols.{token_of};
+ghost use Rattle.type_skip.specs.Words.{token_of};
 
 use crate::balanced::balanced_end;
 use crate::fault::{Fault, closed, opened};
 use crate::tokens::{
-    Symbol, dots_end, is_bar, is_label, is_literal, is_name, is_separator, marks_end, opens_typeof,
-    stands,
+    dots_end, is_bar, is_label, is_literal, is_name, is_separator, marks_end, opens_typeof,
 };
+use crate::words::{Word, stands};
 use syntax_tree::Token;
 
 /// What the beginning of an atom leads to.
@@ -64,7 +64,7 @@ fn atom(tokens: &[Token], at: usize, room: usize) -> Result<Step, Fault>
     if is_literal(tokens, at) {
         return Ok(Step::Ended(at + 1));
     }
-    if stands(tokens, at, Symbol::TripleDot) {
+    if stands(tokens, at, Word::TripleDot) {
         return Ok(Step::Part(at + 1));
     }
     if opens_typeof(tokens, at) {
@@ -73,10 +73,10 @@ fn atom(tokens: &[Token], at: usize, room: usize) -> Result<Step, Fault>
     if is_name(tokens, at) {
         return Ok(Step::Ended(name_end(tokens, at, room)?));
     }
-    if stands(tokens, at, Symbol::OpenBrace) {
+    if stands(tokens, at, Word::OpenBrace) {
         return Ok(Step::Ended(table_end(tokens, at, room)?));
     }
-    if stands(tokens, at, Symbol::Less) || stands(tokens, at, Symbol::OpenParen) {
+    if stands(tokens, at, Word::Less) || stands(tokens, at, Word::OpenParen) {
         return function_step(tokens, at, room);
     }
     Err(Fault::Unexpected(at))
@@ -89,7 +89,7 @@ fn function_step(tokens: &[Token], at: usize, room: usize) -> Result<Step, Fault
     ensures { ReadsAs (IsStep tokens.now room at) IsAtom tokens.now room at result }
 {
     let end = head_end(tokens, at, room)?;
-    if stands(tokens, end, Symbol::Arrow) {
+    if stands(tokens, end, Word::Arrow) {
         Ok(Step::Result(end + 1))
     } else {
         Ok(Step::Ended(end))
@@ -103,7 +103,7 @@ fn typeof_end(tokens: &[Token], at: usize, room: usize) -> Result<usize, Fault>
     ensures { Reads IsAtom tokens.now room at result }
 {
     let inner = opened(at + 1, room)?;
-    balanced_end(tokens, at + 2, Symbol::CloseParen, inner)
+    balanced_end(tokens, at + 2, Word::CloseParen, inner)
 }
 
 /// Where a name with its arguments ends.
@@ -122,7 +122,7 @@ fn name_end(tokens: &[Token], at: usize, room: usize) -> Result<usize, Fault>
 fn member_end(tokens: &[Token], at: usize) -> Result<usize, Fault>
     ensures { (room : ℕ) → Reads IsMemberAt tokens.now room at result }
 {
-    if !stands(tokens, at, Symbol::Dot) {
+    if !stands(tokens, at, Word::Dot) {
         return Ok(at);
     }
     if !is_name(tokens, at + 1) {
@@ -136,11 +136,11 @@ fn member_end(tokens: &[Token], at: usize) -> Result<usize, Fault>
 fn arguments_end(tokens: &[Token], at: usize, room: usize) -> Result<usize, Fault>
     ensures { Reads IsArguments tokens.now room at result }
 {
-    if !stands(tokens, at, Symbol::Less) {
+    if !stands(tokens, at, Word::Less) {
         return Ok(at);
     }
     let inner = opened(at, room)?;
-    items_end(tokens, at + 1, Symbol::Greater, inner)
+    items_end(tokens, at + 1, Word::Greater, inner)
 }
 
 /// Where a table ends, which begins with a `{`.
@@ -162,12 +162,12 @@ fn head_end(tokens: &[Token], at: usize, room: usize) -> Result<usize, Fault>
 {
     let inner = opened(at, room)?;
     let begin = generics_end(tokens, at, inner)?;
-    items_end(tokens, begin, Symbol::CloseParen, inner)
+    items_end(tokens, begin, Word::CloseParen, inner)
 }
 
 /// The place behind the bracket that closes items.
 #[cycle(parts)]
-fn items_end(tokens: &[Token], at: usize, close: Symbol, room: usize) -> Result<usize, Fault>
+fn items_end(tokens: &[Token], at: usize, close: Word, room: usize) -> Result<usize, Fault>
     requires { IsTrue (ends_type (Some (token_of close))) }
     ensures { Reads (IsClosedItems (token_of close)) tokens.now room at result }
 {
@@ -179,14 +179,14 @@ fn items_end(tokens: &[Token], at: usize, close: Symbol, room: usize) -> Result<
 
 /// The place behind the bracket that closes a list of items.
 #[cycle(parts)]
-fn item_list_end(tokens: &[Token], at: usize, close: Symbol, room: usize) -> Result<usize, Fault>
+fn item_list_end(tokens: &[Token], at: usize, close: Word, room: usize) -> Result<usize, Fault>
     requires { IsTrue (ends_type (Some (token_of close))) }
     ensures { Reads (IsClosedItemList (token_of close)) tokens.now room at result }
 {
     let mut begin = at;
     loop {
         let end = item_end(tokens, begin, room)?;
-        if !stands(tokens, end, Symbol::Comma) {
+        if !stands(tokens, end, Word::Comma) {
             return closed(tokens, end, close);
         }
         begin = end + 1;
@@ -211,10 +211,10 @@ fn fields_end(tokens: &[Token], at: usize, room: usize) -> Result<usize, Fault>
     ensures { Reads IsClosedFields tokens.now room at result }
 {
     let mut begin = at;
-    while !stands(tokens, begin, Symbol::CloseBrace) {
+    while !stands(tokens, begin, Word::CloseBrace) {
         let end = field_end(tokens, begin, room)?;
         if !is_separator(tokens, end) {
-            return closed(tokens, end, Symbol::CloseBrace);
+            return closed(tokens, end, Word::CloseBrace);
         }
         begin = end + 1;
     }
@@ -226,13 +226,13 @@ fn fields_end(tokens: &[Token], at: usize, room: usize) -> Result<usize, Fault>
 fn field_end(tokens: &[Token], at: usize, room: usize) -> Result<usize, Fault>
     ensures { Reads IsField tokens.now room at result }
 {
-    if !stands(tokens, at, Symbol::OpenBracket) {
+    if !stands(tokens, at, Word::OpenBracket) {
         return item_end(tokens, at, room);
     }
     let inner = opened(at, room)?;
     let key = type_end(tokens, at + 1, inner)?;
-    let bracket = closed(tokens, key, Symbol::CloseBracket)?;
-    let value = closed(tokens, bracket, Symbol::Colon)?;
+    let bracket = closed(tokens, key, Word::CloseBracket)?;
+    let value = closed(tokens, bracket, Word::Colon)?;
     type_end(tokens, value, room)
 }
 
@@ -242,7 +242,7 @@ fn generics_end(tokens: &[Token], at: usize, room: usize) -> Result<usize, Fault
     requires { Has tokens.now at Less ⊎ Has tokens.now at OpenParen }
     ensures { ReadsAs (IsOpened tokens.now room at) IsEntered tokens.now (room + 1) at result }
 {
-    if stands(tokens, at, Symbol::OpenParen) {
+    if stands(tokens, at, Word::OpenParen) {
         return Ok(at + 1);
     }
     generic_list_end(tokens, at + 1, room)
@@ -256,9 +256,9 @@ fn generic_list_end(tokens: &[Token], at: usize, room: usize) -> Result<usize, F
     let mut begin = at;
     loop {
         let end = generic_end(tokens, begin, room)?;
-        if !stands(tokens, end, Symbol::Comma) {
-            let open = closed(tokens, end, Symbol::Greater)?;
-            return closed(tokens, open, Symbol::OpenParen);
+        if !stands(tokens, end, Word::Comma) {
+            let open = closed(tokens, end, Word::Greater)?;
+            return closed(tokens, open, Word::OpenParen);
         }
         begin = end + 1;
     }
@@ -280,7 +280,7 @@ fn generic_end(tokens: &[Token], at: usize, room: usize) -> Result<usize, Fault>
 fn default_end(tokens: &[Token], at: usize, room: usize) -> Result<usize, Fault>
     ensures { Reads IsDefault tokens.now room at result }
 {
-    if stands(tokens, at, Symbol::Equal) {
+    if stands(tokens, at, Word::Equal) {
         type_end(tokens, at + 1, room)
     } else {
         Ok(at)

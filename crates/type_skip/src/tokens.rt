@@ -4,78 +4,10 @@ ghost use Rattle.std.specs.Prelude.{◌≡◌, ◌+◌, ◌<◌, ◌^◌, length
 ghost use Rattle.syntax_tree.specs.Places.{kind_at, is_name, Has, Lacks, Optional};
 ghost use Rattle.syntax_tree.specs.Types.{is_bar, is_literal, is_separator, is_label, opens_typeof, IsMarks};
 ghost use Rattle.syntax_tree.specs.declared.token.TokenKind.TheVariants.{TripleDot};
-ghost use Rattle.type_skip.specs.Symbols.{stands, token_of};
 
+use crate::words::{Word, kind_at, stands};
 use byte_text::StrId;
 use syntax_tree::{Token, TokenKind};
-
-/// The symbols that the grammar of types names.
-#[derive(Clone, Copy, PartialEq, Eq)]
-pub(crate) enum Symbol {
-    Question,
-    TripleDot,
-    Dot,
-    Comma,
-    Colon,
-    Equal,
-    Arrow,
-    Less,
-    Greater,
-    OpenParen,
-    CloseParen,
-    OpenBrace,
-    CloseBrace,
-    OpenBracket,
-    CloseBracket,
-}
-
-/// The kind of the token at a place, if there is one.
-pub(crate) fn kind_at(tokens: &[Token], at: usize) -> Option<TokenKind>
-    ensures kind { result ≡ kind_at tokens.now at }
-    ensures within { OnSome result (at < length tokens.now) }
-    ensures few { length tokens.now < 2 ^ 63 }
-{
-    match tokens.get(at) {
-        Some(token) => Some(token.kind),
-        None => None,
-    }
-}
-
-/// Whether a symbol stands at a place.
-pub(crate) fn stands(tokens: &[Token], at: usize, symbol: Symbol) -> bool
-    ensures value { result ≡ stands symbol (kind_at tokens.now at) }
-    ensures there { IsTrue result → Has tokens.now at (token_of symbol) }
-    ensures absent { IsFalse result → Lacks tokens.now at (token_of symbol) }
-    ensures within { IsTrue result → at < length tokens.now }
-    ensures few { length tokens.now < 2 ^ 63 }
-{
-    match kind_at(tokens, at) {
-        Some(kind) => is_symbol(kind, symbol),
-        None => false,
-    }
-}
-
-fn is_symbol(kind: TokenKind, symbol: Symbol) -> bool
-    ensures { result ≡ stands symbol (Some kind) }
-{
-    match symbol {
-        Symbol::Question => matches!(kind, TokenKind::Question),
-        Symbol::TripleDot => matches!(kind, TokenKind::TripleDot),
-        Symbol::Dot => matches!(kind, TokenKind::Dot),
-        Symbol::Comma => matches!(kind, TokenKind::Comma),
-        Symbol::Colon => matches!(kind, TokenKind::Colon),
-        Symbol::Equal => matches!(kind, TokenKind::Equal),
-        Symbol::Arrow => matches!(kind, TokenKind::Arrow),
-        Symbol::Less => matches!(kind, TokenKind::Less),
-        Symbol::Greater => matches!(kind, TokenKind::Greater),
-        Symbol::OpenParen => matches!(kind, TokenKind::OpenParen),
-        Symbol::CloseParen => matches!(kind, TokenKind::CloseParen),
-        Symbol::OpenBrace => matches!(kind, TokenKind::OpenBrace),
-        Symbol::CloseBrace => matches!(kind, TokenKind::CloseBrace),
-        Symbol::OpenBracket => matches!(kind, TokenKind::OpenBracket),
-        Symbol::CloseBracket => matches!(kind, TokenKind::CloseBracket),
-    }
-}
 
 /// Whether a `|` or a `&` stands there.
 pub(crate) fn is_bar(tokens: &[Token], at: usize) -> bool
@@ -153,7 +85,7 @@ pub(crate) fn marks_end(tokens: &[Token], at: usize) -> usize
     ensures { IsMarks tokens.now at result }
 {
     let mut at = at;
-    while stands(tokens, at, Symbol::Question) {
+    while stands(tokens, at, Word::Question) {
         at += 1;
     }
     at
@@ -163,7 +95,7 @@ pub(crate) fn marks_end(tokens: &[Token], at: usize) -> usize
 pub(crate) fn dots_end(tokens: &[Token], at: usize) -> usize
     ensures { Optional tokens.now TripleDot at result }
 {
-    if stands(tokens, at, Symbol::TripleDot) {
+    if stands(tokens, at, Word::TripleDot) {
         at + 1
     } else {
         at

@@ -14,7 +14,7 @@ returns-then-block-tokens c =
     let block : FindsBlock c.args.tokens.now 200 0 (Ok c.in-Block.block) = rw c.in-Block.is at c.in_ok-block.ensures in
     left_over_block c.args.tokens.now c.in-Block.block block c.if-block-tokens.true
 
-pub returns-in-Block : goal.returns-in-Block
-returns-in-Block c =
+pub returns-else-block-tokens : goal.returns-else-block-tokens
+returns-else-block-tokens c =
     let block : FindsBlock c.args.tokens.now 200 0 (Ok c.in-Block.block) = rw c.in-Block.is at c.in_ok-block.ensures in
     whole_block c.args.tokens.now c.in-Block.block block c.if-block-tokens.false

@@ -5,7 +5,7 @@ use Rattle.type_skip.specs.declared.balanced.Turn.TheVariants.{Pass, Nest, Done,
 use Rattle.type_skip.specs.declared.fault.Fault.TheVariants.{Unexpected, TooDeep}
 use Rattle.type_skip.specs.Balance.{class_of, turn_of}
 use Rattle.type_skip.specs.Reading.{Fails, IsClosedStrings}
-use Rattle.type_skip.specs.Symbols.{token_of}
+use Rattle.type_skip.specs.Words.{token_of}
 use Rattle.type_skip.proofs.Forward.{balanced_forward}
 use Rattle.type_skip.proofs.Leading.{leads_in_fails, exactly_fails, exactly_then, Exactly, same_self}
 use Rattle.type_skip.proofs.Strings.{pass, pass_count, done, nests, open_of, nest_leads, nest_exactly, deep_nest, stuck_balanced, turns_within}

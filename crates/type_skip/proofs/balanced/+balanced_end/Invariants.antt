@@ -1,6 +1,6 @@
 use Rattle.std.proofs.Common.{◌≤◌, ◌+◌, ◌-◌, ◌^◌, length}
 use Rattle.type_skip.specs.Reading.{IsClosedBalanced, IsClosedStrings}
-use Rattle.type_skip.specs.Symbols.{token_of}
+use Rattle.type_skip.specs.Words.{token_of}
 use Rattle.type_skip.proofs.Leading.{Exactly}
 use Rattle.type_skip.proofs.balanced.+balanced_end.Given as goal
 

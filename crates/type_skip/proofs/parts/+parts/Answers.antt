@@ -7,7 +7,7 @@ use Rattle.type_skip.specs.declared.fault.Fault.TheVariants.{Unexpected}
 use Rattle.type_skip.specs.declared.parts.Step.{Step}
 use Rattle.type_skip.specs.declared.parts.Step.TheVariants as step
 use Rattle.type_skip.specs.Reading.{Fails, IsStep, IsEntered}
-use Rattle.type_skip.specs.Symbols.{token_of}
+use Rattle.type_skip.specs.Words.{token_of}
 use Rattle.type_skip.proofs.Forward.{atom_forward, marks_forward, item_forward, field_forward, generic_forward}
 use Rattle.type_skip.proofs.Leading.{Exactly, leads_fails, exactly_fails, exactly_then, same_self}
 use Rattle.type_skip.proofs.Types.{behind_bar, into_part, into_result, into_more, into_atom}

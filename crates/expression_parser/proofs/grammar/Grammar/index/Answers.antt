@@ -4,7 +4,7 @@ use Rattle.syntax_tree.specs.declared.token.TokenKind.TheVariants as token
 use Rattle.syntax_tree.specs.declared.tree.Expr.{Expr}
 use Rattle.syntax_tree.specs.Grammar.{IsSuffixes, IsExpr, expression, in_target, index}
 use Rattle.type_skip.proofs.GoingOn.{has_within}
-use Rattle.parse_steps.specs.declared.words.Word.TheVariants as word
+use Rattle.type_skip.specs.declared.words.Word.TheVariants as word
 use Rattle.parse_steps.specs.Items as item
 use Rattle.parse_steps.specs.Steps.{most}
 use Rattle.expression_parser.specs.Reading.{ending_of}

@@ -1,7 +1,7 @@
 use Rattle.std.proofs.Common.{max, ◌+◌, ◌∷◌, arith}
 use Rattle.std.proofs.lemmas.Result.{err_from_is_err_and}
 use Rattle.syntax_tree.specs.Grammar.{expression}
-use Rattle.parse_steps.specs.declared.words.Word.TheVariants as word
+use Rattle.type_skip.specs.declared.words.Word.TheVariants as word
 use Rattle.parse_steps.specs.Items as item
 use Rattle.expression_parser.proofs.Leading.{then_fails}
 use Rattle.expression_parser.proofs.SimpleTurns.{wrapped_run}

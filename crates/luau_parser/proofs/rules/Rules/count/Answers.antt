@@ -1,6 +1,6 @@
 use Rattle.std.proofs.Common.{◌-◌}
 use Rattle.std.proofs.lemmas.Result.{err_from_is_err_and}
-use Rattle.parse_steps.specs.declared.words.Word.TheVariants as words
+use Rattle.type_skip.specs.declared.words.Word.TheVariants as words
 use Rattle.luau_parser.proofs.StatementTurns.{faulty_block, block_without}
 use Rattle.luau_parser.proofs.ForTurns.{no_do, do_refuses, count_in_head, count_rest, count_found}
 use Rattle.luau_parser.proofs.rules.Rules.count.Goals as goal

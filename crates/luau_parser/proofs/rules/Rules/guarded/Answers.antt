@@ -1,6 +1,6 @@
 use Rattle.std.proofs.Common.{◌-◌}
 use Rattle.std.proofs.lemmas.Result.{err_from_is_err_and}
-use Rattle.parse_steps.specs.declared.words.Word.TheVariants as words
+use Rattle.type_skip.specs.declared.words.Word.TheVariants as words
 use Rattle.luau_parser.proofs.StatementTurns.{faulty_expression, expression_without}
 use Rattle.luau_parser.proofs.ArmTurns.{faulty_condition, faulty_body, guarded_found}
 use Rattle.luau_parser.proofs.rules.Rules.guarded.Goals as goal

@@ -1,6 +1,6 @@
 use Rattle.std.proofs.Common.{◌-◌, refl}
 use Rattle.std.proofs.lemmas.Result.{err_from_is_err_and}
-use Rattle.parse_steps.specs.declared.words.Word.TheVariants as words
+use Rattle.type_skip.specs.declared.words.Word.TheVariants as words
 use Rattle.luau_parser.proofs.StatementTurns.{faulty_expression, expression_without}
 use Rattle.luau_parser.proofs.ForTurns.{head_start, head_limit, head_step, limits_found, limits_and_step}
 use Rattle.luau_parser.proofs.rules.Rules.limits.Goals as goal

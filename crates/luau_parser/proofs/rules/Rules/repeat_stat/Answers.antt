@@ -1,7 +1,7 @@
 use Rattle.std.proofs.Common.{◌-◌, ◌+◌, arith, refl}
 use Rattle.std.proofs.lemmas.Result.{err_from_is_err_and}
 use Rattle.syntax_tree.specs.declared.token.TokenKind.TheVariants as token
-use Rattle.parse_steps.specs.declared.words.Word.TheVariants as words
+use Rattle.type_skip.specs.declared.words.Word.TheVariants as words
 use Rattle.expression_parser.proofs.SameTurns.{has_within}
 use Rattle.luau_parser.proofs.NodeStatements.{no_room}
 use Rattle.luau_parser.proofs.StatementTurns.{faulty_block, block_without, repeat_parts, repeat_opens, repeat_block, repeat_condition, repeat_found}

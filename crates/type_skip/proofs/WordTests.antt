@@ -2,9 +2,9 @@
 use Rattle.std.proofs.Common.{◌≡◌, ◌≢◌, Bool, true, false, Option, Some, refl, sym, ap, ◌∙◌, true≢false}
 use Rattle.syntax_tree.specs.declared.token.TokenKind.{TokenKind}
 use Rattle.syntax_tree.specs.declared.token.TokenKind.TheVariants as token
-use Rattle.parse_steps.specs.declared.words.Word.{Word}
-use Rattle.parse_steps.specs.declared.words.Word.TheVariants as word
-use Rattle.parse_steps.specs.Words.{token_of, is_word}
+use Rattle.type_skip.specs.declared.words.Word.{Word}
+use Rattle.type_skip.specs.declared.words.Word.TheVariants as word
+use Rattle.type_skip.specs.Words.{token_of, is_word}
 
 pub has : (w : Word) (o : Option TokenKind) → is_word w o ≡ true → o ≡ Some (token_of w)
 has word.Do (Some token.Do) h = refl
@@ -18,6 +18,7 @@ has word.In (Some token.In) h = refl
 has word.Less (Some token.Less) h = refl
 has word.Then (Some token.Then) h = refl
 has word.Until (Some token.Until) h = refl
+has word.Arrow (Some token.Arrow) h = refl
 has word.Caret (Some token.Caret) h = refl
 has word.CloseBrace (Some token.CloseBrace) h = refl
 has word.CloseBracket (Some token.CloseBracket) h = refl
@@ -28,8 +29,10 @@ has word.Dot (Some token.Dot) h = refl
 has word.DoubleColon (Some token.DoubleColon) h = refl
 has word.DoubleDot (Some token.DoubleDot) h = refl
 has word.Equal (Some token.Equal) h = refl
+has word.OpenBrace (Some token.OpenBrace) h = refl
 has word.OpenBracket (Some token.OpenBracket) h = refl
 has word.OpenParen (Some token.OpenParen) h = refl
+has word.Question (Some token.Question) h = refl
 has word.Semicolon (Some token.Semicolon) h = refl
 has word.TripleDot (Some token.TripleDot) h = refl
 has _ _ h = absurd (true≢false (sym h))
@@ -46,6 +49,7 @@ is_itself word.In = refl
 is_itself word.Less = refl
 is_itself word.Then = refl
 is_itself word.Until = refl
+is_itself word.Arrow = refl
 is_itself word.Caret = refl
 is_itself word.CloseBrace = refl
 is_itself word.CloseBracket = refl
@@ -56,8 +60,10 @@ is_itself word.Dot = refl
 is_itself word.DoubleColon = refl
 is_itself word.DoubleDot = refl
 is_itself word.Equal = refl
+is_itself word.OpenBrace = refl
 is_itself word.OpenBracket = refl
 is_itself word.OpenParen = refl
+is_itself word.Question = refl
 is_itself word.Semicolon = refl
 is_itself word.TripleDot = refl
 

@@ -2,11 +2,11 @@
 
 ghost use Rattle.std.specs.Prelude.{◌≡◌, ◌<◌, ◌^◌, length, Some, OnSome, IsTrue, IsFalse};
 ghost use Rattle.syntax_tree.specs.Places.{kind_at, Has, Lacks};
-ghost use Rattle.parse_steps.specs.Words.{is_word, token_of};
+ghost use Rattle.type_skip.specs.Words.{is_word, token_of};
 
 use syntax_tree::{Token, TokenKind};
 
-/// The reserved words and symbols that the grammar of expressions and statements names, but for the operators.
+/// The reserved words and symbols that the grammar names, but for the operators.
 #[derive(Clone, Copy, PartialEq, Eq)]
 pub enum Word {
     Do,
@@ -20,6 +20,7 @@ pub enum Word {
     Less,
     Then,
     Until,
+    Arrow,
     Caret,
     CloseBrace,
     CloseBracket,
@@ -30,8 +31,10 @@ pub enum Word {
     DoubleColon,
     DoubleDot,
     Equal,
+    OpenBrace,
     OpenBracket,
     OpenParen,
+    Question,
     Semicolon,
     TripleDot,
 }
@@ -77,6 +80,7 @@ fn is_word(kind: TokenKind, word: Word) -> bool
         Word::Less => matches!(kind, TokenKind::Less),
         Word::Then => matches!(kind, TokenKind::Then),
         Word::Until => matches!(kind, TokenKind::Until),
+        Word::Arrow => matches!(kind, TokenKind::Arrow),
         Word::Caret => matches!(kind, TokenKind::Caret),
         Word::CloseBrace => matches!(kind, TokenKind::CloseBrace),
         Word::CloseBracket => matches!(kind, TokenKind::CloseBracket),
@@ -87,8 +91,10 @@ fn is_word(kind: TokenKind, word: Word) -> bool
         Word::DoubleColon => matches!(kind, TokenKind::DoubleColon),
         Word::DoubleDot => matches!(kind, TokenKind::DoubleDot),
         Word::Equal => matches!(kind, TokenKind::Equal),
+        Word::OpenBrace => matches!(kind, TokenKind::OpenBrace),
         Word::OpenBracket => matches!(kind, TokenKind::OpenBracket),
         Word::OpenParen => matches!(kind, TokenKind::OpenParen),
+        Word::Question => matches!(kind, TokenKind::Question),
         Word::Semicolon => matches!(kind, TokenKind::Semicolon),
         Word::TripleDot => matches!(kind, TokenKind::TripleDot),
     }

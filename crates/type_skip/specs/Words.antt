@@ -2,8 +2,8 @@
 use Rattle.std.specs.Prelude.{Bool, true, false, Option, Some}
 use Rattle.syntax_tree.specs.declared.token.TokenKind.{TokenKind}
 use Rattle.syntax_tree.specs.declared.token.TokenKind.TheVariants as token
-use Rattle.parse_steps.specs.declared.words.Word.{Word}
-use Rattle.parse_steps.specs.declared.words.Word.TheVariants as word
+use Rattle.type_skip.specs.declared.words.Word.{Word}
+use Rattle.type_skip.specs.declared.words.Word.TheVariants as word
 
 abbrev pub token_of : Word → TokenKind
 token_of word.Do = token.Do
@@ -17,6 +17,7 @@ token_of word.In = token.In
 token_of word.Less = token.Less
 token_of word.Then = token.Then
 token_of word.Until = token.Until
+token_of word.Arrow = token.Arrow
 token_of word.Caret = token.Caret
 token_of word.CloseBrace = token.CloseBrace
 token_of word.CloseBracket = token.CloseBracket
@@ -27,8 +28,10 @@ token_of word.Dot = token.Dot
 token_of word.DoubleColon = token.DoubleColon
 token_of word.DoubleDot = token.DoubleDot
 token_of word.Equal = token.Equal
+token_of word.OpenBrace = token.OpenBrace
 token_of word.OpenBracket = token.OpenBracket
 token_of word.OpenParen = token.OpenParen
+token_of word.Question = token.Question
 token_of word.Semicolon = token.Semicolon
 token_of word.TripleDot = token.TripleDot
 
@@ -45,6 +48,7 @@ is_word word.In (Some token.In) = true
 is_word word.Less (Some token.Less) = true
 is_word word.Then (Some token.Then) = true
 is_word word.Until (Some token.Until) = true
+is_word word.Arrow (Some token.Arrow) = true
 is_word word.Caret (Some token.Caret) = true
 is_word word.CloseBrace (Some token.CloseBrace) = true
 is_word word.CloseBracket (Some token.CloseBracket) = true
@@ -55,8 +59,10 @@ is_word word.Dot (Some token.Dot) = true
 is_word word.DoubleColon (Some token.DoubleColon) = true
 is_word word.DoubleDot (Some token.DoubleDot) = true
 is_word word.Equal (Some token.Equal) = true
+is_word word.OpenBrace (Some token.OpenBrace) = true
 is_word word.OpenBracket (Some token.OpenBracket) = true
 is_word word.OpenParen (Some token.OpenParen) = true
+is_word word.Question (Some token.Question) = true
 is_word word.Semicolon (Some token.Semicolon) = true
 is_word word.TripleDot (Some token.TripleDot) = true
 is_word _ _ = false
