@@ -18,7 +18,7 @@ pub use fault::{ScopeFault, ScopeRule};
 pub use length::bulk;
 pub use level::Level;
 pub use nesting::nest;
-pub use notes::{Leap, Note, Place, Visible};
+pub use notes::{Capture, Leap, Note, Place, Visible};
 pub use token::{Token, TokenKind};
 pub use tree::{
     Arm, BinOp, Expr, ExprArm, ExprKind, Field, FieldKind, FuncBody, Stat, StatKind, Tree, UnOp,
