@@ -5,7 +5,7 @@ use Rattle.std.proofs.lemmas.Option.{none-some}
 use Rattle.syntax_tree.specs.declared.fault.ScopeFault.{ScopeFault}
 use Rattle.syntax_tree.specs.declared.token.Token.{Token}
 use Rattle.syntax_tree.specs.declared.tree.Tree.{Tree}
-use Rattle.syntax_tree.specs.Bound.{faults}
+use Rattle.syntax_tree.specs.Bound.{bound, faults}
 use Rattle.syntax_tree.specs.Derivations.{main_function, Derives}
 use Rattle.syntax_tree.specs.Numbers.{numbered}
 use Rattle.luau_lexer.specs.Tokens.{HasTokens}
@@ -58,4 +58,4 @@ refused_or_script bytes _ (breaks_rule tokens other fault spelled parsed first) 
 refused_or_script bytes _ (unbuilt other at b e) tree s =
     let a = s.accepted in
     let same = same_tree bytes b.tokens a.tokens other tree b.spelled a.spelled b.parsed a.parsed in
-    none-some at (sym s.built ∙ ap (λ t. first_unbuilt (statements t)) (sym same) ∙ e)
+    none-some at (sym s.built ∙ ap (λ t. first_unbuilt (bound t) (statements t)) (sym same) ∙ e)

@@ -7,7 +7,7 @@ use Rattle.syntax_tree.specs.declared.token.Token.{Token}
 use Rattle.syntax_tree.specs.declared.tree.FuncBody.{out-FuncBody}
 use Rattle.syntax_tree.specs.declared.tree.Stat.{Stat}
 use Rattle.syntax_tree.specs.declared.tree.Tree.{Tree}
-use Rattle.syntax_tree.specs.Bound.{faults, IsScopeFault}
+use Rattle.syntax_tree.specs.Bound.{bound, faults, IsScopeFault}
 use Rattle.luau_lexer.specs.declared.error.LexErr.{LexErr}
 use Rattle.luau_lexer.specs.declared.error.LexErr.TheVariants as lex
 use Rattle.luau_lexer.specs.Spellings.{HasFault}
@@ -41,7 +41,7 @@ pub record IsAccepted (bytes : List ℕ) (tree : Tree) : Type 0 where
 -- an accepted script all of whose nodes are built
 pub record IsScript (bytes : List ℕ) (tree : Tree) : Type 0 where
   pub accepted : IsAccepted bytes tree
-  pub built : first_unbuilt (statements tree) ≡ None
+  pub built : first_unbuilt (bound tree) (statements tree) ≡ None
 
 -- ---- refusals
 
@@ -91,7 +91,7 @@ pub data IsRefused (bytes : List ℕ) : Cause → Type 0 where
   no_tokens : (fault : LexErr) (c : Cause) → HasFault bytes fault → lexical fault ≡ Some c → IsRefused bytes c
   no_tree : (tokens : List Token) (error : ParseErr) (c : Cause) → HasTokens bytes tokens → IsRefusal tokens error → syntactic error ≡ Some c → IsRefused bytes c
   breaks_rule : (tokens : List Token) (tree : Tree) (fault : ScopeFault) → HasTokens bytes tokens → IsParsed tokens tree → IsScopeFault tree fault → IsRefused bytes (cause (rule_name fault.rule) fault.at)
-  unbuilt : (tree : Tree) (at : ℕ) → IsAccepted bytes tree → first_unbuilt (statements tree) ≡ Some at → IsRefused bytes (not_built at)
+  unbuilt : (tree : Tree) (at : ℕ) → IsAccepted bytes tree → first_unbuilt (bound tree) (statements tree) ≡ Some at → IsRefused bytes (not_built at)
 
 -- ---- what is read
 

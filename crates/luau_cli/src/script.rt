@@ -39,11 +39,11 @@ pub fn read_script(alloc: Global, source: &[u8]) -> Result<Reading, OutOfMemory>
         Ok(tree) => tree,
         Err(error) => return refused(syntactic(error)),
     };
-    match resolve(alloc, &tree) {
-        Ok(_) => {}
+    let bindings = match resolve(alloc, &tree) {
+        Ok(bindings) => bindings,
         Err(error) => return refused(broken_rule(error)),
-    }
-    match first_unbuilt(alloc, &tree)? {
+    };
+    match first_unbuilt(&tree, &bindings) {
         Some(at) => Ok(Reading::Refused(Refusal {
             cause: "NotBuilt 60",
             at,
