@@ -4,6 +4,7 @@ pub mod Following
 pub mod NeverStuck
 pub mod Behaving
 pub mod TreeForms
+pub mod StandingParts
 pub mod ItemLists
 pub mod LabelRanges
 pub mod EmittedValues
@@ -15,3 +16,4 @@ pub mod Built
 pub mod BuiltNeeds
 pub mod BuiltSizes
 pub mod BuiltBlocks
+pub mod BuiltForms

@@ -68,9 +68,10 @@ pub record IsPrint (names : List StrId) (call : Expr) : Type 0 where
   pub free : register_of names print_name ≡ None
   pub value : IsArithmetic names (room names 1) argument
 
--- a local's names come in front
+-- the names of a `local` or a `local function` come in front
 abbrev pub names_beyond : StatLevel → List StrId → List StrId
 names_beyond (level.Local xs es) names = reverse xs ++ names
+names_beyond (level.LocalFunction x f) names = x ∷ names
 names_beyond _ names = names
 
 -- the names in scope after a statement

@@ -4,5 +4,6 @@ pub mod Code
 pub mod Fits
 pub mod Correct
 pub mod Emitted
+pub mod Standing
 pub mod Unbuilt
 pub mod Fitting

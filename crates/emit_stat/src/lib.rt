@@ -1,6 +1,7 @@
 //! The compiler, from the tree to words.
 #![tactic(auto)]
 
+mod bound;
 mod draft;
 mod laws;
 mod scope;

@@ -1,127 +1,108 @@
 //! Which node of a script is not built.
 
-ghost use Rattle.std.specs.Prelude.{◌≡◌, ◌≤◌, [], ◌++◌, map, reverse, IfOk, OnOk, MatchOption, None, IsTrue};
-ghost use Rattle.syntax_tree.specs.declared.tree.Arm.{out-Arm};
+ghost use Rattle.std.specs.Prelude.{◌≡◌, ◌≤◌, [], map, None, IsTrue};
 ghost use Rattle.syntax_tree.specs.declared.tree.FuncBody.{out-FuncBody};
 ghost use Rattle.syntax_tree.specs.Bound.{faults};
-ghost use Rattle.emit_stat.specs.Emitted.{IsTarget};
-ghost use Rattle.emit_stat.specs.Form.{names_after, IsCondition, IsPrint, IsStatement, IsBlock};
-ghost use Rattle.emit_stat.specs.Fitting.{ExprFits, StatementFits, BlockFits, ArmFits, IsValue, IsLocal, IsAssignment, IsPrintName, IsPrintCall, IsArm};
+ghost use Rattle.emit_stat.specs.Form.{IsBlock};
+ghost use Rattle.emit_stat.specs.Fitting.{ValueForm, TargetForm, PrintNameForm, ConditionForm, CallForm, PrintForm, LocalForm, AssignmentForm, ArmForm, StatementForm, BlockForm};
 ghost use Rattle.emit_stat.specs.Size.{block_words};
-ghost use Rattle.emit_stat.specs.Unbuilt.{uses_of, uses_of_stat, uses_of_arm, is_local, is_print, is_arithmetic, is_comparison, local_statement, assignment, print_call, unbuilt_in, first_unbuilt};
+ghost use Rattle.emit_stat.specs.Standing.{IsBound};
+ghost use Rattle.emit_stat.specs.Unbuilt.{uses_of, unbuilt_in_stat, unbuilt_in_arm, is_arithmetic, is_comparison, local_statement, assignment, print_call, first_unbuilt};
 
-use crate::scope::Scope;
+use crate::bound::bound_at;
 use byte_text::StrId;
-use resource::OutOfMemory;
-use std::alloc::Global;
-use syntax_tree::{Arm, BinOp, Expr, ExprKind, Stat, StatKind, Tree};
+use syntax_tree::{Arm, BinOp, Bindings, Bound, Expr, ExprKind, Stat, StatKind, Tree};
 
 /// The place of the first node of a script, in source order, that is not built, if there is one.
 ///
-/// A script that breaks no rule of scopes and sizes and has no such node can be compiled. The only error is want of memory.
-pub fn first_unbuilt(alloc: Global, tree: &Tree) -> Result<Option<usize>, OutOfMemory>
-    ensures place { IfOk result (λ at. at ≡ first_unbuilt (out-FuncBody tree.now.main).body) }
-    ensures form { IfOk result (λ at. at ≡ None → faults tree.now ≡ [] → IsBlock [] (out-FuncBody tree.now.main).body) }
-    ensures small { IfOk result (λ at. at ≡ None → faults tree.now ≡ [] → block_words (out-FuncBody tree.now.main).body ≤ 29998) }
+/// The bindings are those of the tree. A script that breaks no rule of scopes and sizes and has no such node can be compiled.
+pub fn first_unbuilt(tree: &Tree, bindings: &Bindings) -> Option<usize>
+    requires { IsBound tree.now bindings.now }
+    ensures place { result ≡ first_unbuilt bindings.now (out-FuncBody tree.now.main).body }
+    ensures form { result ≡ None → faults tree.now ≡ [] → IsBlock [] (out-FuncBody tree.now.main).body }
+    ensures small { result ≡ None → faults tree.now ≡ [] → block_words (out-FuncBody tree.now.main).body ≤ 29998 }
 {
-    let mut scope = Scope::new(alloc);
-    in_block(&mut scope, tree.main.body.as_slice())
+    in_block(bindings, tree.main.body.as_slice())
 }
 
-// What is not built in a block, whose locals are forgotten behind it.
+// What is not built in a block.
 #[cycle(unbuilt)]
-fn in_block(scope: &mut Scope, block: &[Stat]) -> Result<Option<usize>, OutOfMemory>
-    ensures place { IfOk result (λ found. found ≡ unbuilt_in scope.old block.now) }
-    ensures form { IfOk result (λ found. found ≡ None → BlockFits scope.old block.now → IsBlock scope.old block.now) }
-    ensures scope { OnOk result (scope.new ≡ scope.old) }
+fn in_block(bindings: &Bindings, block: &[Stat]) -> Option<usize>
+    ensures place { result ≡ first_unbuilt bindings.now block.now }
+    ensures form { result ≡ None → BlockForm bindings.now block.now }
 {
-    let outer = scope.free_register();
     for stat in block {
-        if let Some(at) = in_statement(scope, stat)? {
-            scope.forget(outer);
-            return Ok(Some(at));
+        if let Some(at) = in_statement(bindings, stat) {
+            return Some(at);
         }
     }
-    scope.forget(outer);
-    Ok(None)
+    None
 }
 
-// What is not built in a statement. Where all is built, its local is in scope behind it.
+// What is not built in a statement.
 #[cycle(unbuilt)]
-fn in_statement(scope: &mut Scope, stat: &Stat) -> Result<Option<usize>, OutOfMemory>
-    ensures place { IfOk result (λ found. found ≡ (uses_of_stat stat.now).unbuilt scope.old) }
-    ensures form { IfOk result (λ found. found ≡ None → StatementFits scope.old stat.now → IsStatement scope.old stat.now) }
-    ensures scope { IfOk result (λ found. MatchOption found (scope.new ≡ names_after scope.old stat.now) (λ _. scope.new ≡ scope.old)) }
+fn in_statement(bindings: &Bindings, stat: &Stat) -> Option<usize>
+    ensures place { result ≡ unbuilt_in_stat bindings.now stat.now }
+    ensures form { result ≡ None → StatementForm bindings.now stat.now }
 {
     match &stat.kind {
         StatKind::Local { names, values } => {
-            in_local(scope, stat.at, names.as_slice(), values.as_slice())
+            in_local(bindings, stat.at, names.as_slice(), values.as_slice())
         }
         StatKind::Assign { targets, values } => {
-            Ok(in_assignment(scope, stat.at, targets.as_slice(), values.as_slice()))
+            in_assignment(bindings, stat.at, targets.as_slice(), values.as_slice())
         }
-        StatKind::Call(call) => Ok(in_call(scope, call)),
+        StatKind::Call(call) => in_call(bindings, call),
         StatKind::If { arms, other } => {
             let [arm] = arms.as_slice() else {
-                return Ok(Some(stat.at));
+                return Some(stat.at);
             };
-            if let Some(at) = in_arm(scope, arm)? {
-                return Ok(Some(at));
+            if let Some(at) = in_arm(bindings, arm) {
+                return Some(at);
             }
             match other {
-                None => Ok(None),
-                Some(body) => in_block(scope, body.as_slice()),
+                None => None,
+                Some(body) => in_block(bindings, body.as_slice()),
             }
         }
-        StatKind::While { cond, body } => match in_condition(scope, cond.get()) {
-            Some(at) => Ok(Some(at)),
-            None => in_block(scope, body.as_slice()),
+        StatKind::While { cond, body } => match in_condition(bindings, cond.get()) {
+            Some(at) => Some(at),
+            None => in_block(bindings, body.as_slice()),
         },
-        _ => Ok(Some(stat.at)),
+        _ => Some(stat.at),
     }
 }
 
 // What is not built in a condition and its block.
 #[cycle(unbuilt)]
-fn in_arm(scope: &mut Scope, arm: &Arm) -> Result<Option<usize>, OutOfMemory>
-    ensures place { IfOk result (λ found. found ≡ uses_of_arm arm.now scope.old) }
-    ensures form { IfOk result (λ found. found ≡ None → ArmFits scope.old arm.now → IsArm scope.old arm.now) }
-    ensures scope { OnOk result (scope.new ≡ scope.old) }
+fn in_arm(bindings: &Bindings, arm: &Arm) -> Option<usize>
+    ensures place { result ≡ unbuilt_in_arm bindings.now arm.now }
+    ensures form { result ≡ None → ArmForm bindings.now arm.now }
 {
-    match in_condition(scope, &arm.cond) {
-        Some(at) => Ok(Some(at)),
-        None => in_block(scope, arm.body.as_slice()),
+    match in_condition(bindings, &arm.cond) {
+        Some(at) => Some(at),
+        None => in_block(bindings, arm.body.as_slice()),
     }
 }
 
-// What is not built in a `local` at a place. Where all is built, the local is in scope behind it.
-fn in_local(
-    scope: &mut Scope,
-    at: usize,
-    names: &[StrId],
-    values: &[Expr],
-) -> Result<Option<usize>, OutOfMemory>
-    ensures place { IfOk result (λ found. found ≡ local_statement at names.now (map uses_of values.now) scope.old) }
-    ensures form { IfOk result (λ found. found ≡ None → IsLocal scope.old names.now values.now) }
-    ensures scope { IfOk result (λ found. MatchOption found (scope.new ≡ reverse names.now ++ scope.old) (λ _. scope.new ≡ scope.old)) }
+// What is not built in a `local` at a place.
+fn in_local(bindings: &Bindings, at: usize, names: &[StrId], values: &[Expr]) -> Option<usize>
+    ensures place { result ≡ local_statement at names.now (map (uses_of bindings.now) values.now) }
+    ensures form { result ≡ None → LocalForm bindings.now names.now values.now }
 {
-    let [name] = names else {
-        return Ok(Some(at));
+    let [_] = names else {
+        return Some(at);
     };
     let [value] = values else {
-        return Ok(Some(at));
+        return Some(at);
     };
-    if let Some(inside) = in_value(scope, value) {
-        return Ok(Some(inside));
-    }
-    scope.declare(*name)?;
-    Ok(None)
+    in_value(bindings, value)
 }
 
 // What is not built in an assignment at a place.
-fn in_assignment(scope: &Scope, at: usize, targets: &[Expr], values: &[Expr]) -> Option<usize>
-    ensures place { result ≡ assignment at (map uses_of targets.now) (map uses_of values.now) scope.now }
-    ensures form { result ≡ None → IsAssignment scope.now targets.now values.now }
+fn in_assignment(bindings: &Bindings, at: usize, targets: &[Expr], values: &[Expr]) -> Option<usize>
+    ensures place { result ≡ assignment at (map (uses_of bindings.now) targets.now) (map (uses_of bindings.now) values.now) }
+    ensures form { result ≡ None → AssignmentForm bindings.now targets.now values.now }
 {
     let [target] = targets else {
         return Some(at);
@@ -129,54 +110,54 @@ fn in_assignment(scope: &Scope, at: usize, targets: &[Expr], values: &[Expr]) ->
     let [value] = values else {
         return Some(at);
     };
-    if is_local(scope, target) {
-        in_value(scope, value)
+    if is_local(bindings, target) {
+        in_value(bindings, value)
     } else {
         Some(at)
     }
 }
 
 // What is not built in a call that is a statement.
-fn in_call(scope: &Scope, call: &Expr) -> Option<usize>
-    ensures place { result ≡ (uses_of call.now).call scope.now }
-    ensures form { result ≡ None → ExprFits scope.now call.now → IsPrint scope.now call.now }
+fn in_call(bindings: &Bindings, call: &Expr) -> Option<usize>
+    ensures place { result ≡ (uses_of bindings.now call.now).call }
+    ensures form { result ≡ None → CallForm bindings.now call.now }
 {
     match &call.kind {
         ExprKind::Call { callee, args } => {
-            in_print(scope, call.at, callee.get(), args.as_slice())
+            in_print(bindings, call.at, callee.get(), args.as_slice())
         }
         _ => Some(call.at),
     }
 }
 
 // What is not built in a call of a function at a place.
-fn in_print(scope: &Scope, at: usize, callee: &Expr, args: &[Expr]) -> Option<usize>
-    ensures place { result ≡ print_call at (uses_of callee.now) (map uses_of args.now) scope.now }
-    ensures form { result ≡ None → IsPrintCall scope.now callee.now args.now }
+fn in_print(bindings: &Bindings, at: usize, callee: &Expr, args: &[Expr]) -> Option<usize>
+    ensures place { result ≡ print_call at (uses_of bindings.now callee.now) (map (uses_of bindings.now) args.now) }
+    ensures form { result ≡ None → PrintForm bindings.now callee.now args.now }
 {
     let [argument] = args else {
         return Some(at);
     };
-    if is_print(scope, callee) {
-        in_value(scope, argument)
+    if is_print(bindings, callee) {
+        in_value(bindings, argument)
     } else {
         Some(at)
     }
 }
 
 // What is not built in a condition.
-fn in_condition(scope: &Scope, cond: &Expr) -> Option<usize>
-    ensures place { result ≡ (uses_of cond.now).condition scope.now }
-    ensures form { result ≡ None → ExprFits scope.now cond.now → IsCondition scope.now cond.now }
+fn in_condition(bindings: &Bindings, cond: &Expr) -> Option<usize>
+    ensures place { result ≡ (uses_of bindings.now cond.now).condition }
+    ensures form { result ≡ None → ConditionForm bindings.now cond.now }
 {
     match &cond.kind {
         ExprKind::Binary { op, a, b } => {
             if !is_comparison(*op) {
                 return Some(cond.at);
             }
-            match in_value(scope, a.get()) {
+            match in_value(bindings, a.get()) {
                 Some(at) => Some(at),
-                None => in_value(scope, b.get()),
+                None => in_value(bindings, b.get()),
             }
         }
         _ => Some(cond.at),
@@ -184,23 +165,23 @@ fn in_condition(scope: &Scope, cond: &Expr) -> Option<usize>
 }
 
 // What is not built in a value.
-fn in_value(scope: &Scope, e: &Expr) -> Option<usize>
-    ensures place { result ≡ (uses_of e.now).value scope.now }
-    ensures form { result ≡ None → IsValue scope.now e.now }
+fn in_value(bindings: &Bindings, e: &Expr) -> Option<usize>
+    ensures place { result ≡ (uses_of bindings.now e.now).value }
+    ensures form { result ≡ None → ValueForm bindings.now e.now }
 {
     match &e.kind {
         ExprKind::Num(_) => None,
-        ExprKind::Name(name) => match scope.register_of(*name) {
-            Some(_) => None,
-            None => Some(e.at),
+        ExprKind::Name(_) => match bound_at(bindings, e.id) {
+            Some(Bound::Local(_)) => None,
+            _ => Some(e.at),
         },
         ExprKind::Binary { op, a, b } => {
             if !is_arithmetic(*op) {
                 return Some(e.at);
             }
-            match in_value(scope, a.get()) {
+            match in_value(bindings, a.get()) {
                 Some(at) => Some(at),
-                None => in_value(scope, b.get()),
+                None => in_value(bindings, b.get()),
             }
         }
         _ => Some(e.at),
@@ -208,23 +189,25 @@ fn in_value(scope: &Scope, e: &Expr) -> Option<usize>
 }
 
 // Whether an expression is the name of a local.
-fn is_local(scope: &Scope, e: &Expr) -> bool
-    ensures test { result ≡ is_local scope.now (uses_of e.now).name }
-    ensures form { IsTrue result → IsTarget scope.now e.now }
+fn is_local(bindings: &Bindings, e: &Expr) -> bool
+    ensures test { result ≡ (uses_of bindings.now e.now).local }
+    ensures form { IsTrue result → TargetForm bindings.now e.now }
 {
     match &e.kind {
-        ExprKind::Name(name) => scope.register_of(*name).is_some(),
+        ExprKind::Name(_) => matches!(bound_at(bindings, e.id), Some(Bound::Local(_))),
         _ => false,
     }
 }
 
 // Whether an expression is the name `print`, which no local has taken.
-fn is_print(scope: &Scope, e: &Expr) -> bool
-    ensures test { result ≡ is_print scope.now (uses_of e.now).name }
-    ensures form { IsTrue result → IsPrintName scope.now e.now }
+fn is_print(bindings: &Bindings, e: &Expr) -> bool
+    ensures test { result ≡ (uses_of bindings.now e.now).print }
+    ensures form { IsTrue result → PrintNameForm bindings.now e.now }
 {
     match &e.kind {
-        ExprKind::Name(name) => *name == StrId::PRINT && scope.register_of(*name).is_none(),
+        ExprKind::Name(name) => {
+            *name == StrId::PRINT && matches!(bound_at(bindings, e.id), Some(Bound::Global))
+        }
         _ => false,
     }
 }

@@ -1,6 +1,7 @@
 pub mod CommandWords
 pub mod Deliveries
 pub mod Readings
+pub mod Bindings
 pub mod Refused
 pub mod Replying
 pub mod Outcomes

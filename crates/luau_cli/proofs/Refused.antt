@@ -9,7 +9,7 @@ use Rattle.syntax_tree.specs.declared.fault.Refusal.{Refusal}
 use Rattle.syntax_tree.specs.declared.token.Token.{Token}
 use Rattle.syntax_tree.specs.declared.tree.Tree.{Tree}
 use Rattle.syntax_tree.specs.Accepts.{Accepts, Refuses, no_tokens, no_tree, breaks_rule}
-use Rattle.syntax_tree.specs.Bound.{faults}
+use Rattle.syntax_tree.specs.Bound.{bound, faults}
 use Rattle.syntax_tree.specs.Derivations.{main_function, Derives}
 use Rattle.syntax_tree.specs.Numbers.{numbered}
 use Rattle.syntax_tree.specs.Tokens.{HasTokens}
@@ -65,4 +65,4 @@ refused_or_script bytes (error.NotBuilt at) u tree s =
     let a = s.accepted in
     let b = u.accepted in
     let same = same_tree bytes b.tokens a.tokens u.tree tree b.spelled a.spelled b.parsed a.parsed in
-    none-some at (sym s.built ∙ ap (λ t. first_unbuilt (statements t)) (sym same) ∙ u.first)
+    none-some at (sym s.built ∙ ap (λ t. first_unbuilt (bound t) (statements t)) (sym same) ∙ u.first)

@@ -5,6 +5,7 @@ use Rattle.syntax_tree.specs.declared.tree.FuncBody.{out-FuncBody}
 use Rattle.syntax_tree.specs.declared.tree.Stat.{Stat}
 use Rattle.syntax_tree.specs.declared.tree.Tree.{Tree}
 use Rattle.syntax_tree.specs.Accepts.{Accepts, Refuses}
+use Rattle.syntax_tree.specs.Bound.{bound}
 use Rattle.syntax_tree.specs.Causes.{refusal_text}
 use Rattle.emit_stat.specs.Form.{IsBlock}
 use Rattle.emit_stat.specs.Size.{block_words}
@@ -21,13 +22,13 @@ statements tree = (out-FuncBody tree.main).body
 -- an accepted script all of whose nodes are built
 pub record IsScript (bytes : List ℕ) (tree : Tree) : Type 0 where
   pub accepted : Accepts bytes tree
-  pub built : first_unbuilt (statements tree) ≡ None
+  pub built : first_unbuilt (bound tree) (statements tree) ≡ None
 
 -- an accepted script whose first node that is not built stands at a place
 pub record IsUnbuilt (bytes : List ℕ) (at : ℕ) : Type 0 where
   pub tree : Tree
   pub accepted : Accepts bytes tree
-  pub first : first_unbuilt (statements tree) ≡ Some at
+  pub first : first_unbuilt (bound tree) (statements tree) ≡ Some at
 
 -- why a script does not run
 abbrev pub IsRefused : List ℕ → ScriptErr → Type 0

@@ -40,11 +40,11 @@ pub fn read_script(alloc: Global, source: &[u8]) -> Result<Reading, OutOfMemory>
         Ok(tree) => tree,
         Err(error) => return refused(error.refusal()),
     };
-    match resolve(alloc, &tree) {
-        Ok(_) => {}
+    let bindings = match resolve(alloc, &tree) {
+        Ok(bindings) => bindings,
         Err(error) => return refused(error.refusal()),
-    }
-    match first_unbuilt(alloc, &tree)? {
+    };
+    match first_unbuilt(&tree, &bindings) {
         Some(at) => Ok(Reading::Refused(ScriptErr::NotBuilt { at })),
         None => Ok(Reading::Script(tree)),
     }

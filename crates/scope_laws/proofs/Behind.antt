@@ -5,12 +5,16 @@ use Rattle.syntax_tree.specs.declared.notes.Visible.{Visible}
 use Rattle.syntax_tree.specs.declared.tree.ExprKind.TheOpen as level
 use Rattle.scope_laws.specs.Sight.{Sight, Part, expr, function, expr_arm, field, ExprLevel, FieldLevel, declares, shows, behind, expr_parts, field_parts}
 
-pub sight_by : (a b : Sight) → a.scope ≡ b.scope → a.declared ≡ b.declared → a.first ≡ b.first → a ≡ b
-sight_by a b p q r = ap₂ (λ x y. record { scope = x; declared = y; first = a.first }) p q ∙ ap (λ z. record {
+-- the function around
+abbrev pub around : Sight → ℕ × ℕ
+around s = (s.first, s.func)
+
+pub sight_by : (a b : Sight) → a.scope ≡ b.scope → a.declared ≡ b.declared → around a ≡ around b → a ≡ b
+sight_by a b p q r = ap₂ (λ x y. record { scope = x; declared = y; first = a.first; func = a.func }) p q ∙ ap (λ z. record {
   scope = b.scope;
-  declared =
-      b.declared;
-  first = z;
+  declared = b.declared;
+  first = z.0;
+  func = z.1;
 }) r
 
 abbrev pub all_behind : List Part → Sight → Sight
@@ -21,9 +25,9 @@ abbrev pub all_declare : List Part → ℕ
 all_declare [] = 0
 all_declare (p ∷ ps) = declares p + all_declare ps
 
-pub behind_first : (ps : List Part) (s : Sight) → (all_behind ps s).first ≡ s.first
-behind_first [] s = refl
-behind_first (p ∷ ps) s = behind_first ps (behind p s)
+pub behind_around : (ps : List Part) (s : Sight) → around (all_behind ps s) ≡ around s
+behind_around [] s = refl
+behind_around (p ∷ ps) s = behind_around ps (behind p s)
 
 pub behind_declared : (ps : List Part) (s : Sight) → (all_behind ps s).declared ≡ s.declared + all_declare ps
 behind_declared [] s = omega arith

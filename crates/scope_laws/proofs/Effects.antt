@@ -9,10 +9,15 @@ use Rattle.syntax_tree.specs.Names.{Known, names_expr, names_stat, names_func, n
 use Rattle.syntax_tree.specs.Names as names
 use Rattle.scope_laws.specs.Sight.{Sight, Part, expr, stat, function, arm, expr_arm, field, block}
 use Rattle.scope_laws.specs.Sight as sight
+use Rattle.scope_laws.proofs.Behind.{around}
 
 -- what is seen where this is known
 abbrev pub sight_of : Known → Sight
-sight_of k = record { scope = k.scope; declared = length k.locals; first = k.first }
+sight_of k = record { scope = k.scope; declared = length k.locals; first = k.first; func = k.func }
+
+-- the function around
+abbrev pub around_known : Known → ℕ × ℕ
+around_known k = around (sight_of k)
 
 -- these names become visible
 abbrev pub shown : List Visible → Known → Known
@@ -69,7 +74,7 @@ stats_known body k = list_known stat names_stat (λ a k. refl) body k
 -- ---- declaring
 
 -- new locals of the function around
-abbrev infos : ℕ → List StrId → List LocalInfo
+abbrev pub infos : ℕ → List StrId → List LocalInfo
 infos func [] = []
 infos func (name ∷ names) = record { name = name; func = func; captured = false; assigned = false } ∷ infos func names
 
@@ -91,14 +96,17 @@ pub locals_count : (xs : List StrId) (k : Known) → length (locals xs k).locals
 locals_count xs k = ap (λ (t : Known). length t.locals) (locals_known xs k) ∙ length-append k.locals (infos k.func xs)
     ∙ omega (arith, infos_length k.func xs)
 
+pub locals_new : (xs : List StrId) (k : Known) → (locals xs k).locals ≡ k.locals ++ infos k.func xs
+locals_new xs k = ap (λ (t : Known). t.locals) (locals_known xs k)
+
 pub locals_notes : (xs : List StrId) (k : Known) → (locals xs k).notes ≡ k.notes
 locals_notes xs k = ap (λ (t : Known). t.notes) (locals_known xs k)
 
 pub locals_scope : (xs : List StrId) (k : Known) → (locals xs k).scope ≡ k.scope
 locals_scope xs k = ap (λ (t : Known). t.scope) (locals_known xs k)
 
-pub locals_first : (xs : List StrId) (k : Known) → (locals xs k).first ≡ k.first
-locals_first xs k = ap (λ (t : Known). t.first) (locals_known xs k)
+pub locals_around : (xs : List StrId) (k : Known) → around_known (locals xs k) ≡ around_known k
+locals_around xs k = ap around_known (locals_known xs k)
 
 pub visible_known : (n : ℕ) (xs : List StrId) (k : Known) → all_visible n xs k ≡ record k { scope = k.scope ++ sight.visible n xs }
 visible_known n [] k = ap (λ l. record k { scope = l }) (sym (append-nil k.scope))

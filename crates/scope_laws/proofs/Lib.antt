@@ -6,9 +6,12 @@ pub mod Counts
 pub mod Effects
 pub mod StatOpens
 pub mod Places
+pub mod Entries
 pub mod Opens
 pub mod Passing
 pub mod Seen
 pub mod Covering
 pub mod Gains
 pub mod Capturing
+pub mod Declaring
+pub mod Told

@@ -341,7 +341,7 @@ stat_walks y n = subst (λ f. PartWalk stat n (f n)) (sym (stat_is numbering (re
   line = y.line;
   kind =
       (at_stat_kind numbering y.kind.0 (n + 1)).0;
-})) tt (λ s. y.kind.1 (n + 1) s))
+})) refl (λ s. y.kind.1 (n + 1) s))
 
 -- ---- a script
 

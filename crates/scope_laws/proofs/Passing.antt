@@ -5,7 +5,7 @@ use Rattle.scope_laws.specs.Sight.{Sight, Part, expr, stat, function, arm, expr_
 use Rattle.scope_laws.proofs.Behind.{all_behind}
 use Rattle.scope_laws.proofs.Effects.{sight_of, names_part, names_parts, is_target, less}
 use Rattle.scope_laws.proofs.Opens.{Opens, opens}
-use Rattle.scope_laws.proofs.Places.{get_front}
+use Rattle.scope_laws.proofs.Places.{get_front, Front, front_same, front_then, front_to}
 use Rattle.scope_laws.proofs.Walks.{Walk, done, passed, inner}
 
 pub inner_least : (p : Part) (n : ℕ) → n ≤ inner p n
@@ -22,11 +22,12 @@ pub rises : {n m : ℕ} {ps : List Part} → Sight → Walk n ps m → n ≤ m
 rises s (done n) = omega arith
 rises s (passed n m r p ps h inside rest) = omega (arith, inner_least p n, rises s (inside s), rises s rest)
 
--- the notes before stay, the nodes have one note each, and this is seen behind
+-- the notes and locals before stay, the nodes have one note each, and this is seen behind
 pub record Passes (n m : ℕ) (ps : List Part) (k t : Known) : Type 0 where
   pub count : length t.notes ≡ m
   pub before : (i : ℕ) → i < n → slice_get t.notes i ≡ slice_get k.notes i
   pub ends : sight_of t ≡ all_behind ps (sight_of k)
+  pub locals : Front k.locals t.locals
 
 -- of one part, by what is inside
 abbrev pub Single : ℕ → ℕ → Part → Bool → Known → Type 0
@@ -42,11 +43,12 @@ single n m p target k o at_n inside = record {
       o.same i (inl within) ∙ inside.before i (omega (arith, inner_least p n, lt)) ∙ ap (λ l. slice_get l i) o.notes
       ∙ get_front k.notes o.own i within;
   ends = o.ends (inside.ends ∙ ap (all_behind (in_part p (sight_of k)).parts) o.begins);
+  locals = front_to (front_then (record { more = _; is = o.new }) inside.locals) o.locals;
 }
 
 pub passes : {n m : ℕ} {ps : List Part} → Walk n ps m → (targets : ℕ) (k : Known) → length k.notes ≡ n →
     Passes n m ps k (names_parts ps targets k)
-passes (done n) targets k h = record { count = h; before = λ i lt. refl; ends = refl }
+passes (done n) targets k h = record { count = h; before = λ i lt. refl; ends = refl; locals = front_same k.locals }
 passes (passed n m r p ps num inside rest) targets k h =
     let o : Opens p (is_target targets) k = opens p (is_target targets) k in
     let one : Single n m p (is_target targets) k = single n m p (is_target targets) k o h (passes (inside (sight_of k)) o.targets o.into
@@ -58,4 +60,5 @@ passes (passed n m r p ps num inside rest) targets k h =
       count = others.count;
       before = λ i lt. others.before i (omega (arith, lt, le)) ∙ one.before i lt;
       ends = others.ends ∙ ap (all_behind ps) one.ends;
+      locals = front_then one.locals others.locals;
     }

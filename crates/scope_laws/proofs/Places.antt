@@ -1,5 +1,5 @@
 -- Places in lists.
-use Rattle.std.proofs.Common.{◌≡◌, ◌≢◌, ◌∙◌, ℕ, zero, suc, ◌+◌, ◌<◌, List, [], ◌∷◌, ◌++◌, length, drop, Bool, true, false, ◌||◌, Some, None, refl, sym, ap, rules, arith, slice_get, set}
+use Rattle.std.proofs.Common.{◌≡◌, ◌≢◌, ◌∙◌, ℕ, zero, suc, ◌+◌, ◌<◌, List, [], ◌∷◌, ◌++◌, length, take, drop, append-nil, append_assoc, Bool, true, false, ◌||◌, Some, None, refl, sym, ap, rules, arith, slice_get, set}
 use Rattle.std.specs.List.{list_any}
 
 pub none_some : {A : Type 0} {x : A} → None ≡ Some x → ⊥
@@ -7,6 +7,9 @@ none_some h = search rules
 
 pub same_some : {A : Type 0} {x y : A} → Some x ≡ Some y → x ≡ y
 same_some h = search rules
+
+pub false_true : false ≡ true → ⊥
+false_true h = search rules
 
 pub get_front : {A : Type 0} (xs ys : List A) (i : ℕ) → i < length xs → slice_get (xs ++ ys) i ≡ slice_get xs i
 get_front [] ys i h = absurd (omega (arith, h))
@@ -61,3 +64,41 @@ at_any p (y ∷ xs) (suc i) x h e = ap (λ b. p y || b) (at_any p xs i x h e) �
   yes : (b : Bool) → (b || true) ≡ true
   yes true = refl
   yes false = refl
+
+-- an element that is taken
+pub get_take : {A : Type 0} (xs : List A) (m i : ℕ) (x : A) → slice_get (take m xs) i ≡ Some x → (i < m) × (slice_get xs i ≡ Some x)
+get_take xs zero i x h = absurd (none_some h)
+get_take [] (suc m) i x h = absurd (none_some h)
+get_take (y ∷ xs) (suc m) zero x h = (omega arith, h)
+get_take (y ∷ xs) (suc m) (suc i) x h = let t : (i < m) × (slice_get xs i ≡ Some x) = get_take xs m i x h in (omega (arith, t.0), t.1)
+
+-- an element of a second list
+pub get_behind : {A : Type 0} (xs ys : List A) (i : ℕ) → slice_get (xs ++ ys) (length xs + i) ≡ slice_get ys i
+get_behind [] ys i = ap (slice_get ys) (omega arith)
+get_behind (x ∷ xs) ys i = ap (slice_get (x ∷ (xs ++ ys))) (plus (length xs) i) ∙ get_behind xs ys i where
+  plus : (n i : ℕ) → suc n + i ≡ suc (n + i)
+  plus n i = omega arith
+
+-- ---- lists that begin with others
+
+pub record Front {A : Type 0} (xs ys : List A) : Type 0 where
+  pub more : List A
+  pub is : ys ≡ xs ++ more
+
+pub front_same : {A : Type 0} (xs : List A) → Front xs xs
+front_same xs = record { more = []; is = sym (append-nil xs) }
+
+pub front_then : {A : Type 0} {xs ys zs : List A} → Front xs ys → Front ys zs → Front xs zs
+front_then {xs} f g = record {
+  more = f.more ++ g.more;
+  is = g.is ∙ ap (λ l. l ++ g.more) f.is ∙ append_assoc xs f.more g.more;
+}
+
+pub front_from : {A : Type 0} {xs ys zs : List A} → xs ≡ ys → Front ys zs → Front xs zs
+front_from e f = record { more = f.more; is = f.is ∙ ap (λ l. l ++ f.more) (sym e) }
+
+pub front_to : {A : Type 0} {xs ys zs : List A} → Front xs ys → zs ≡ ys → Front xs zs
+front_to f e = record { more = f.more; is = e ∙ f.is }
+
+pub front_get : {A : Type 0} {xs ys : List A} (i : ℕ) → Front xs ys → i < length xs → slice_get ys i ≡ slice_get xs i
+front_get {xs} i f h = ap (λ l. slice_get l i) f.is ∙ get_front xs f.more i h

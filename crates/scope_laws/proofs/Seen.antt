@@ -10,18 +10,20 @@ use Rattle.syntax_tree.specs.declared.tree.ExprKind.{ExprKind, out-ExprKind}
 use Rattle.syntax_tree.specs.declared.tree.ExprKind as expr_kind
 use Rattle.syntax_tree.specs.declared.tree.ExprKind.TheOpen as level
 use Rattle.syntax_tree.specs.declared.tree.ExprKind.TheViews as views
-use Rattle.syntax_tree.specs.declared.tree.FuncBody.{FuncBody}
+use Rattle.syntax_tree.specs.declared.tree.FuncBody.{FuncBody, out-FuncBody}
 use Rattle.syntax_tree.specs.Bound.{bound, known}
 use Rattle.syntax_tree.specs.Names.{Known, names_expr, named, bound_here, start}
 use Rattle.syntax_tree.specs.Numbers.{numbered}
 use Rattle.syntax_tree.specs.Scope.{look, bound_in}
-use Rattle.scope_laws.specs.Laws.{NamesInScope}
+use Rattle.scope_laws.specs.Declared.{node_of, own_names, declarer, HasEntry}
+use Rattle.scope_laws.specs.Laws.{NamesInScope, NodesHaveFirsts}
 use Rattle.scope_laws.specs.Sight.{Sight, Part, expr, function, behind, in_part, stat, arm, expr_arm, field, block, Sees, Within, itself, next, enter, NameWithin, nothing, ExprLevel, expr_parts}
 use Rattle.scope_laws.proofs.Effects.{sight_of, names_part, names_parts, is_target, less}
+use Rattle.scope_laws.proofs.Entries.{declared_entry}
 use Rattle.scope_laws.proofs.Numbering.{script_walk}
-use Rattle.scope_laws.proofs.Opens.{Opens, opens, own_known, expr_known}
+use Rattle.scope_laws.proofs.Opens.{Opens, opens, targets_of, Tells, OwnNote, own_known, expr_known}
 use Rattle.scope_laws.proofs.Passing.{Passes, passes, rises, inner_least}
-use Rattle.scope_laws.proofs.Places.{get_last}
+use Rattle.scope_laws.proofs.Places.{get_last, none_some, same_some, Front, front_same, front_then, front_from}
 use Rattle.scope_laws.proofs.Walks.{Walk, passed, one, inner, HasNumber}
 
 -- in a function with the number n, parts that do not begin with a function begin behind its own node
@@ -49,15 +51,16 @@ low_inner (field f) ps n i h = omega (arith, h)
 low_inner (block vs body) ps n i h = omega (arith, h)
 
 -- Of the notes of a function with the number `lowest`, whose nodes have numbers below `highest`, those of the nodes of these
--- parts are the ones that the parts make.
-pub record Here (final : List Note) (lowest highest : ℕ) (s : Sight) (ps : List Part) : Type 0 where
+-- parts are the ones that the parts make. Its locals begin with those that the parts leave.
+pub record Here (final : Known) (lowest highest : ℕ) (s : Sight) (ps : List Part) : Type 0 where
   -- what is known where the first part begins, of which so many are targets
   pub before : Known
   pub targets : ℕ
   pub sees : sight_of before ≡ s
   pub stop : ℕ
   pub walk : Walk (length before.notes) ps stop
-  pub same : (i : ℕ) → length before.notes ≤ i → i < stop → slice_get final i ≡ slice_get (names_parts ps targets before).notes i
+  pub same : (i : ℕ) → length before.notes ≤ i → i < stop → slice_get final.notes i ≡ slice_get (names_parts ps targets before).notes i
+  pub locals : Front (names_parts ps targets before).locals final.locals
   pub low : low_of ps lowest ≤ length before.notes
   pub high : stop ≤ highest
 
@@ -71,7 +74,24 @@ pub record Split (n : ℕ) (p : Part) (ps : List Part) (r : ℕ) : Type 0 where
 split : {n r : ℕ} {p : Part} {ps : List Part} → Walk n (p ∷ ps) r → Split n p ps r
 split (passed n m r p ps h inside rest) = record { middle = m; number = h; inside = inside; rest = rest }
 
-module _ (final : List Note) (lowest highest : ℕ) where
+-- the number of a node
+record IsOwn (p : Part) (n number : ℕ) : Type 0 where
+  pub is : number ≡ n
+  pub inside : n < inner p n
+
+is_own : (p : Part) (n id number : ℕ) → inner p n ≡ n + 1 → id ≡ n → Some id ≡ Some number → IsOwn p n number
+is_own p n id number inside at is = record { is = sym (same_some is) ∙ at; inside = omega (arith, inside) }
+
+own_number : (p : Part) (n number : ℕ) → HasNumber p n → node_of p ≡ Some number → IsOwn p n number
+own_number (expr e) n number at is = is_own (expr e) n e.id number refl at is
+own_number (stat x) n number at is = is_own (stat x) n x.id number refl at is
+own_number (function f) n number at is = is_own (function f) n (out-FuncBody f).id number refl at is
+own_number (arm a) n number at is = absurd (none_some is)
+own_number (expr_arm a) n number at is = absurd (none_some is)
+own_number (field f) n number at is = absurd (none_some is)
+own_number (block vs body) n number at is = absurd (none_some is)
+
+module _ (final : Known) (lowest highest : ℕ) where
   -- what is known of the first of some parts
   pub record First (s : Sight) (p : Part) (ps : List Part) (h : Here final lowest highest s (p ∷ ps)) : Type 0 where
     pub parts : Split (length h.before.notes) p ps h.stop
@@ -93,68 +113,113 @@ module _ (final : List Note) (lowest highest : ℕ) where
         high = rises s parts.rest;
       }
 
-  behind_first : (s : Sight) (p : Part) (ps : List Part) → Here final lowest highest s (p ∷ ps) → Here final lowest highest (behind p s) ps
-  behind_first s p ps h =
+  -- behind the first of some parts
+  pub record Behind (s : Sight) (p : Part) (ps : List Part) (h : Here final lowest highest s (p ∷ ps)) : Type 0 where
+    pub here : Here final lowest highest (behind p s) ps
+    pub targets : here.targets ≡ less h.targets
+
+  pub behind_here : (s : Sight) (p : Part) (ps : List Part) (h : Here final lowest highest s (p ∷ ps)) → Behind s p ps h
+  behind_here s p ps h =
       let f : First s p ps h = first s p ps h in
       let known : Known = names_part p (is_target h.targets) h.before in
       record {
-        before = known;
-        targets = less h.targets;
-        sees = f.single.ends ∙ ap (behind p) h.sees;
-        stop = h.stop;
-        walk = subst (λ n. Walk n ps h.stop) (sym f.single.count) f.parts.rest;
-        same = λ i from upto. h.same i (omega (arith, from, f.single.count, f.low, inner_least p (length h.before.notes))) upto;
-        low = omega (arith, low_most ps lowest, low_inner p ps lowest (length h.before.notes) h.low, f.low, f.single.count);
-        high = h.high;
+        here = record {
+          before = known;
+          targets = less h.targets;
+          sees = f.single.ends ∙ ap (behind p) h.sees;
+          stop = h.stop;
+          walk = subst (λ n. Walk n ps h.stop) (sym f.single.count) f.parts.rest;
+          same = λ i from upto. h.same i (omega (arith, from, f.single.count, f.low, inner_least p (length h.before.notes))) upto;
+          locals = h.locals;
+          low = omega (arith, low_most ps lowest, low_inner p ps lowest (length h.before.notes) h.low, f.low, f.single.count);
+          high = h.high;
+        };
+        targets = refl;
+      }
+
+  -- what is told of a node by its number
+  pub record Numbered (p : Part) (target : Bool) (k : Known) (number : ℕ) : Type 0 where
+    pub note : Note
+    pub at : slice_get final.notes number ≡ Some note
+    pub tells : Tells p target k note
+
+  -- what is known in a part, before which this is known
+  pub record Into (p : Part) (target : Bool) (k : Known) : Type 0 where
+    pub here : Here final lowest highest (in_part p (sight_of k)).sight (in_part p (sight_of k)).parts
+    pub sets : here.targets ≡ length (targets_of p)
+    pub entry : (j : ℕ) (x : StrId) → slice_get (own_names p) j ≡ Some x →
+        HasEntry final.locals (length k.locals + j) x (declarer p (sight_of k))
+    pub noted : (number : ℕ) → node_of p ≡ Some number → Numbered p target k number
+
+  pub into_first : (s : Sight) (p : Part) (ps : List Part) (h : Here final lowest highest s (p ∷ ps)) → Into p (is_target h.targets) h.before
+  into_first s p ps h =
+      let f : First s p ps h = first s p ps h in
+      let k : Known = h.before in
+      let n : ℕ = length k.notes in
+      let o : Opens p (is_target h.targets) k = opens p (is_target h.targets) k in
+      let parts : List Part = (in_part p (sight_of k)).parts in
+      let last : Known = names_parts parts o.targets o.into in
+      let inner_parts : Passes (inner p n) f.parts.middle parts o.into last = passes (f.parts.inside (sight_of k)) o.targets o.into o.count in
+      let front : Front last.locals final.locals = front_from (sym o.locals) (front_then f.others.locals h.locals) in
+      record {
+        here = record {
+          before = o.into;
+          targets = o.targets;
+          sees = o.begins;
+          stop = f.parts.middle;
+          walk = subst (λ n. Walk n parts f.parts.middle) (sym o.count) (f.parts.inside (sight_of k));
+          same = λ i from upto.
+              h.same i (omega (arith, from, o.count, inner_least p n)) (omega (arith, upto, f.high))
+              ∙ f.others.before i upto ∙ o.same i (inr from);
+          locals = front;
+          low = omega (arith, low_most parts lowest, low_inner p ps lowest n h.low, o.count);
+          high = omega (arith, f.high, h.high);
+        };
+        sets = o.sets;
+        entry = λ j x at. declared_entry k.locals o.into.locals final.locals (declarer p (sight_of k)) (own_names p) j x o.new
+            (front_then inner_parts.locals front) at;
+        noted = λ number is.
+            let own : IsOwn p n number = own_number p n number f.parts.number is in
+            let within : n < f.parts.middle = omega (arith, own.inside, f.low) in
+            let told : OwnNote (names_part p (is_target h.targets) k).notes p (is_target h.targets) k =
+            o.own_note (inner_parts.before n own.inside) (omega (arith, own.inside, o.count)) in
+            record {
+              note = told.note;
+              at = ap (slice_get final.notes) own.is ∙ h.same n (omega arith) (omega (arith, within, f.high))
+                  ∙ f.others.before n within ∙ told.at;
+              tells = told.tells;
+            };
       }
 
   in_first : (s : Sight) (p : Part) (ps : List Part) → Here final lowest highest s (p ∷ ps) →
       Here final lowest highest (in_part p s).sight (in_part p s).parts
   in_first s p ps h =
-      let f : First s p ps h = first s p ps h in
-      let o : Opens p (is_target h.targets) h.before = opens p (is_target h.targets) h.before in
-      subst (λ z. Here final lowest highest (in_part p z).sight (in_part p z).parts) h.sees
-      (record {
-        before = o.into;
-        targets = o.targets;
-        sees = o.begins;
-        stop = f.parts.middle;
-        walk = subst (λ n. Walk n (in_part p (sight_of h.before)).parts f.parts.middle) (sym o.count) (f.parts.inside (sight_of h.before));
-        same = λ i from upto.
-            h.same i (omega (arith, from, o.count, inner_least p (length h.before.notes))) (omega (arith, upto, f.high))
-            ∙ f.others.before i upto ∙ o.same i (inr from);
-        low = omega (
-          arith,
-          low_most (in_part p (sight_of h.before)).parts lowest,
-          low_inner p ps lowest
-              (length h.before.notes) h.low,
-          o.count,
-        );
-        high = omega (arith, f.high, h.high);
-      })
+      subst (λ z. Here final lowest highest (in_part p z).sight (in_part p z).parts) h.sees (into_first s p ps h).here
 
   -- the note of a name
-  pub record Noted (s : Sight) (e : Expr) (x : StrId) : Type 0 where
+  pub record Noted (s : Sight) (e : Expr) (x : StrId) (target : Bool) : Type 0 where
     pub note : Note
-    pub at : slice_get final e.id ≡ Some note
+    pub at : slice_get final.notes e.id ≡ Some note
+    pub target_is : note.target ≡ target
     pub bound : note.bound ≡ Some (bound_in s.first (look x s.scope))
     pub low : lowest < e.id
     pub high : e.id < highest
 
-  at_name : (s : Sight) (e : Expr) (ps : List Part) (x : StrId) → e.kind ≡ expr_kind.Name x → Here final lowest highest s (expr e ∷ ps) →
-      Noted s e x
+  pub at_name : (s : Sight) (e : Expr) (ps : List Part) (x : StrId) → e.kind ≡ expr_kind.Name x →
+      (h : Here final lowest highest s (expr e ∷ ps)) → Noted s e x (is_target h.targets)
   at_name s e ps x is h =
       let f : First s (expr e) ps h = first s (expr e) ps h in
       let k : Known = h.before in
       let t : Bool = is_target h.targets in
-      let note : Note = record { at = e.at; bound = Some (bound_here x k); target = t; upvalues = 0 } in
+      let note : Note = record { at = e.at; bound = Some (bound_here x k); target = t; first = length k.locals; upvalues = [] } in
       let l : out-ExprKind e.kind ≡ level.Name x = ap out-ExprKind is ∙ views.outs-Name x in
       let known : names_expr e t k ≡ named e.at x t k = expr_known e t k
       ∙ ap (λ (l : ExprLevel). names_parts (expr_parts l) 0 (own_known l e.at t k)) l in
       let within : length k.notes < f.parts.middle = omega (arith, f.low) in
       record {
         note = note;
-        at = ap (slice_get final) f.parts.number ∙ h.same (length k.notes) (omega arith) (omega (arith, within, f.high))
+        target_is = refl;
+        at = ap (slice_get final.notes) f.parts.number ∙ h.same (length k.notes) (omega arith) (omega (arith, within, f.high))
             ∙ f.others.before (length k.notes) within
             ∙ ap (λ (t : Known). slice_get t.notes (length k.notes)) known ∙ get_last k.notes note;
         bound = ap (λ (z : Sight). Some (bound_in z.first (look x z.scope))) h.sees;
@@ -165,15 +230,21 @@ module _ (final : List Note) (lowest highest : ℕ) where
   within : (s : Sight) (whole : Part) (z : Sight) (ps : List Part) → Here final lowest highest s (whole ∷ []) → Within s whole z ps →
       Here final lowest highest z ps
   within s whole _ _ h itself = h
-  within s whole _ _ h (next z p ps w) = behind_first z p ps (within s whole z (p ∷ ps) h w)
+  within s whole _ _ h (next z p ps w) = (behind_here z p ps (within s whole z (p ∷ ps) h w)).here
   within s whole _ _ h (enter z p ps w) = in_first z p ps (within s whole z (p ∷ ps) h w)
 
-  pub name_within : (s : Sight) (whole : Part) (n : NameWithin s whole) → Here final lowest highest s (whole ∷ []) →
-      Noted n.sight n.node n.name
-  name_within s whole n h = at_name n.sight n.node n.after n.name n.is (within s whole n.sight (expr n.node ∷ n.after) h n.seen)
+  -- a name that is a target or is none
+  pub record SomeNoted (s : Sight) (e : Expr) (x : StrId) : Type 0 where
+    pub target : Bool
+    pub noted : Noted s e x target
+
+  pub name_within : (s : Sight) (whole : Part) (n : NameWithin s whole) → Here final lowest highest s (whole ∷ []) → SomeNoted n.sight n.node n.name
+  name_within s whole n h =
+      let there : Here final lowest highest n.sight (expr n.node ∷ n.after) = within s whole n.sight (expr n.node ∷ n.after) h n.seen in
+      record { target = is_target there.targets; noted = at_name n.sight n.node n.after n.name n.is there }
 
 -- in a whole script
-pub in_script : (main : FuncBody) → Here (known (numbered main)).notes 0 (numbered main).nodes nothing (function (numbered main).main ∷ [])
+pub in_script : (main : FuncBody) → Here (known (numbered main)) 0 (numbered main).nodes nothing (function (numbered main).main ∷ [])
 in_script main = record {
   before = start;
   targets = 0;
@@ -182,13 +253,14 @@ in_script main = record {
   walk = script_walk main;
   same =
       λ i from upto. refl;
+  locals = front_same (known (numbered main)).locals;
   low = omega arith;
   high = omega arith;
 }
 
 pub here : (main : FuncBody) (s : Sight) (ps : List Part) → Sees (numbered main).main s ps →
-    Here (known (numbered main)).notes 0 (numbered main).nodes s ps
-here main s ps w = within (known (numbered main)).notes 0 (numbered main).nodes nothing (function (numbered main).main) s ps
+    Here (known (numbered main)) 0 (numbered main).nodes s ps
+here main s ps w = within (known (numbered main)) 0 (numbered main).nodes nothing (function (numbered main).main) s ps
     (in_script main) w
 
 abbrev pub bound_of : Note → Option Bound
@@ -197,11 +269,31 @@ bound_of note = note.bound
 in_scope : (main : FuncBody) (s : Sight) (e : Expr) (ps : List Part) (x : StrId) → Sees (numbered main).main s (expr e ∷ ps) →
     e.kind ≡ expr_kind.Name x → slice_get (bound (numbered main)).names e.id ≡ Some (Some (bound_in s.first (look x s.scope)))
 in_scope main s e ps x w is =
-    let final : List Note = (known (numbered main)).notes in
-    let n : Noted final 0 (numbered main).nodes s e x = at_name final 0 (numbered main).nodes s e ps x is (here main s (expr e ∷ ps) w) in
-    slice_get-map bound_of final e.id ∙ ap (option_map bound_of) n.at ∙ ap Some n.bound
+    let final : Known = known (numbered main) in
+    let h : Here final 0 (numbered main).nodes s (expr e ∷ ps) = here main s (expr e ∷ ps) w in
+    let n : Noted final 0 (numbered main).nodes s e x (is_target h.targets) = at_name final 0 (numbered main).nodes s e ps x is h in
+    slice_get-map bound_of final.notes e.id ∙ ap (option_map bound_of) n.at ∙ ap Some n.bound
 
 pub names_in_scope : NamesInScope
 names_in_scope main tree s e ps x numbers w is =
     subst (λ z. Sees z.main s (expr e ∷ ps) → slice_get (bound z).names e.id ≡ Some (Some (bound_in s.first (look x s.scope))))
     (sym numbers) (λ w. in_scope main s e ps x w is) w
+
+-- ---- how many locals the text declares before a node
+
+abbrev first_of : Note → ℕ
+first_of note = note.first
+
+firsts_here : (main : FuncBody) (s : Sight) (p : Part) (after : List Part) (number : ℕ) → Sees (numbered main).main s (p ∷ after) →
+    node_of p ≡ Some number → slice_get (bound (numbered main)).firsts number ≡ Some s.declared
+firsts_here main s p after number w is =
+    let final : Known = known (numbered main) in
+    let h : Here final 0 (numbered main).nodes s (p ∷ after) = here main s (p ∷ after) w in
+    let n : Numbered final 0 (numbered main).nodes p (is_target h.targets) h.before number =
+    (into_first final 0 (numbered main).nodes s p after h).noted number is in
+    slice_get-map first_of final.notes number ∙ ap (option_map first_of) n.at ∙ ap Some (n.tells.first ∙ ap (λ (z : Sight). z.declared) h.sees)
+
+pub nodes_have_firsts : NodesHaveFirsts
+nodes_have_firsts main tree s p after number numbers w is =
+    subst (λ z. Sees z.main s (p ∷ after) → slice_get (bound z).firsts number ≡ Some s.declared) (sym numbers)
+    (λ w. firsts_here main s p after number w is) w

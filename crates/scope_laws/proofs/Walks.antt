@@ -3,9 +3,10 @@ use Rattle.std.proofs.Common.{◌≡◌, ℕ, ◌+◌, List, [], ◌∷◌, ◌+
 use Rattle.syntax_tree.specs.declared.tree.FuncBody.{out-FuncBody}
 use Rattle.scope_laws.specs.Sight.{Sight, Part, expr, stat, function, in_part}
 
--- the number of an expression or a function
+-- the number of a node
 abbrev pub HasNumber : Part → ℕ → Type 0
 HasNumber (expr e) n = e.id ≡ n
+HasNumber (stat x) n = x.id ≡ n
 HasNumber (function f) n = (out-FuncBody f).id ≡ n
 HasNumber _ n = Unit {0}
 

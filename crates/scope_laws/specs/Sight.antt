@@ -28,6 +28,8 @@ pub record Sight : Type 0 where
   pub declared : ℕ
   -- the number of the first parameter or local of the function around
   pub first : ℕ
+  -- the number of that function
+  pub func : ℕ
 
 -- a part of the text
 pub data Part : Type 0 where
@@ -171,7 +173,7 @@ abbrev pub in_part : Part → Sight → Inside
 in_part (expr e) s = inside s (expr_parts (out-ExprKind e.kind))
 in_part (stat x) s = in_stat (out-StatKind x.kind) s
 -- the parameters are the first locals of the function, and visible in its block
-in_part (function f) s = inside (record (with_locals (out-FuncBody f).params s) { first = s.declared }) (map stat (out-FuncBody f).body)
+in_part (function f) s = inside (record (with_locals (out-FuncBody f).params s) { first = s.declared; func = (out-FuncBody f).id }) (map stat (out-FuncBody f).body)
 in_part (arm a) s = inside s (expr (out-Arm a).cond ∷ block [] (out-Arm a).body ∷ [])
 in_part (expr_arm a) s = inside s (expr a.cond ∷ expr a.value ∷ [])
 in_part (field f) s = inside s (field_parts (out-FieldKind f.kind))
@@ -201,7 +203,7 @@ pub record NameWithin (from : Sight) (whole : Part) : Type 0 where
 
 -- before a script nothing is declared
 abbrev pub nothing : Sight
-nothing = record { scope = []; declared = 0; first = 0 }
+nothing = record { scope = []; declared = 0; first = 0; func = 0 }
 
 -- these parts follow one another in a script, and this is seen where the first of them begins
 abbrev pub Sees : FuncBody → Sight → List Part → Type 0

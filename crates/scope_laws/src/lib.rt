@@ -3,4 +3,7 @@
 
 mod laws;
 
-pub use laws::{functions_capture, names_are_seen, names_in_scope};
+pub use laws::{
+    declared_have_entries, functions_capture, locals_are_told, names_are_seen, names_in_scope,
+    nodes_have_firsts,
+};

@@ -1,5 +1,5 @@
 -- The first of some faults, one after the other.
-use Rattle.std.proofs.Common.{◌≡◌, ◌<◌, ◌≤◌, ◌⊎◌, inl, inr, ◌∙◌, ◌+◌, ℕ, suc, zero, Option, Some, None, MatchOption, take, get_or, ap, List, [], ◌∷◌, ◌++◌, length, All, Contains, refl, sym, subst, arith}
+use Rattle.std.proofs.Common.{◌≡◌, ◌<◌, ◌≤◌, ◌⊎◌, inl, inr, ◌∙◌, ◌+◌, ℕ, suc, zero, Option, Some, None, MatchOption, take, get_or, ap, List, [], ◌∷◌, ◌++◌, length, All, refl, sym, subst, arith}
 use Rattle.std.proofs.lemmas.List.Elements.{All-append, All-weaker, Contains-append_left, Contains-append_right}
 use Rattle.std.proofs.lemmas.List.{take_all, take_more}
 use Rattle.syntax_tree.specs.declared.fault.ScopeFault.{ScopeFault}

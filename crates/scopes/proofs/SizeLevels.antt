@@ -12,7 +12,6 @@ use Rattle.syntax_tree.specs.declared.tree.ExprArm.{ExprArm, roll-ExprArm, out-E
 use Rattle.syntax_tree.specs.declared.tree.Field.{Field, roll-Field, out-Field}
 use Rattle.syntax_tree.specs.declared.tree.FuncBody.{FuncBody, roll-FuncBody, out-FuncBody}
 use Rattle.syntax_tree.specs.declared.tree.Stat.{Stat, roll-Stat, out-Stat}
-use Rattle.syntax_tree.specs.declared.tree.ExprKind.TheOpen.{ExprKind-F, FieldKind-F, StatKind-F, Arm-F, Expr-F, ExprArm-F, Field-F, FuncBody-F, Stat-F}
 use Rattle.syntax_tree.specs.declared.tree.ExprKind.TheFolds as folds
 use Rattle.syntax_tree.specs.declared.tree.ExprKind.TheViews as views
 use Rattle.syntax_tree.specs.declared.tree.ExprKind as expr

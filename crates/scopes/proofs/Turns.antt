@@ -1,7 +1,8 @@
 -- What loops over notes and over the `continue`s of a loop find.
-use Rattle.std.proofs.Common.{◌≡◌, ◌∙◌, ◌<◌, ◌≤◌, ◌+◌, ◌||◌, if◌then◌else◌, append_assoc, ℕ, suc, Bool, List, [], ◌∷◌, ◌++◌, Option, Some, None, length, take, drop, get_or, refl, sym, ap, subst, arith}
+use Rattle.std.proofs.Common.{◌≡◌, ◌∙◌, ◌<◌, ◌≤◌, ◌+◌, if◌then◌else◌, append_assoc, ℕ, Bool, List, [], ◌++◌, length, drop, get_or, sym, ap}
 use Rattle.std.proofs.lemmas.List.{at_drop_more, drop_all}
 use Rattle.std.specs.List.{list_any}
+use Rattle.syntax_tree.specs.declared.notes.Capture.{Capture}
 use Rattle.syntax_tree.specs.declared.notes.Note.{Note}
 use Rattle.syntax_tree.specs.declared.fault.ScopeFault.{ScopeFault}
 use Rattle.syntax_tree.specs.declared.fault.ScopeRule.TheVariants as rule
@@ -20,5 +21,5 @@ skips_turn below cond leaps i d now new b r lt any e p =
     ∙ ap (λ l. now ++ skips below cond l) (sym (at_drop_more (λ l. l) leaps i d lt)) ∙ p
 
 -- a function that captures not too many variables
-pub few : (names : List Note) → length names ≤ most_variables → too_many names ≡ []
+pub few : (names : List Capture) → length names ≤ most_variables → too_many names ≡ []
 few names le = ap at_first (drop_all most_variables names le)

@@ -9,8 +9,11 @@ use Rattle.syntax_tree.specs.Scope.{local_of}
 abbrev pub bound_notes : List Note → List (Option Bound)
 bound_notes notes = map (λ (n : Note). n.bound) notes
 
-abbrev pub upvalue_notes : List Note → List ℕ
+abbrev pub upvalue_notes : List Note → List (List ℕ)
 upvalue_notes notes = map (λ (n : Note). n.upvalues) notes
+
+abbrev pub first_notes : List Note → List ℕ
+first_notes notes = map (λ (n : Note). n.first) notes
 
 abbrev pub is_from_inside : Option Bound → Bool
 is_from_inside None = false

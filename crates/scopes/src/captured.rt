@@ -2,7 +2,7 @@
 
 ghost use Rattle.std.specs.Prelude.{◌≡◌, ◌≤◌, ◌++◌, ◌||◌, ℕ, [], if◌then◌else◌, nat_lt, drop, IfOk, OnOk};
 ghost use Rattle.std.specs.List.{list_any};
-ghost use Rattle.syntax_tree.specs.Captures.{captures, too_many};
+ghost use Rattle.syntax_tree.specs.Captures.{captures, variables, too_many};
 ghost use Rattle.syntax_tree.specs.Faults.{fault};
 ghost use Rattle.syntax_tree.specs.Leaps.{between, skips};
 ghost use Rattle.syntax_tree.specs.Scope.{local_of};
@@ -12,7 +12,7 @@ use resource::OutOfMemory;
 use sqlite_items::Items;
 use std::alloc::Global;
 use std::collections::HashSet;
-use syntax_tree::{Bound, Leap, MOST_VARIABLES, Note, ScopeFault, ScopeRule};
+use syntax_tree::{Bound, Capture, Leap, MOST_VARIABLES, Note, ScopeFault, ScopeRule};
 
 /// The local that a name is bound to.
 pub fn local_of(bound: Option<Bound>) -> Option<usize>
@@ -39,7 +39,7 @@ pub fn from(notes: &[Note], place: usize) -> &[Note]
 
 /// The names by which a function captures variables, each by its first. `first` is the number of the function's
 /// first local.
-pub fn captures(alloc: Global, notes: &[Note], first: usize) -> Result<Items<Note>, OutOfMemory>
+pub fn captures(alloc: Global, notes: &[Note], first: usize) -> Result<Items<Capture>, OutOfMemory>
     ensures { IfOk result (λ names. names ≡ captures first notes.now) }
 {
     let mut names = Items::new(alloc);
@@ -47,20 +47,31 @@ pub fn captures(alloc: Global, notes: &[Note], first: usize) -> Result<Items<Not
     for note in notes {
         if let Some(local) = local_of(note.bound) {
             if local < first && seen.insert(local)? {
-                names.push(*note)?;
+                names.push(Capture { at: note.at, local })?;
             }
         }
     }
     Ok(names)
 }
 
+/// The variables that these names stand for.
+pub fn variables(alloc: Global, names: &[Capture]) -> Result<Items<usize>, OutOfMemory>
+    ensures { IfOk result (λ locals. locals ≡ variables names.now) }
+{
+    let mut locals = Items::new(alloc);
+    for name in names {
+        locals.push(name.local)?;
+    }
+    Ok(locals)
+}
+
 /// Notes the name by which a function gets one variable too many.
-pub fn too_many(faults: &mut Items<ScopeFault>, names: &[Note]) -> Result<(), OutOfMemory>
+pub fn too_many(faults: &mut Items<ScopeFault>, names: &[Capture]) -> Result<(), OutOfMemory>
     ensures { OnOk result (faults.new ≡ faults.old ++ too_many names.now) }
 {
-    if let Some(note) = names.get(MOST_VARIABLES) {
+    if let Some(name) = names.get(MOST_VARIABLES) {
         faults.push(ScopeFault {
-            at: note.at,
+            at: name.at,
             rule: ScopeRule::TooManyUpvalues,
         })?;
     }
@@ -68,11 +79,11 @@ pub fn too_many(faults: &mut Items<ScopeFault>, names: &[Note]) -> Result<(), Ou
 }
 
 /// The greater of a number and one more than the local that a node uses, where that is below `below`.
-fn reached(reach: usize, below: usize, note: Note) -> usize
+fn reached(reach: usize, below: usize, note: &Note) -> usize
     requires { reach ≤ below }
     ensures most { result ≤ below }
     ensures value { (before : ℕ) → nat_lt before result
-        ≡ (nat_lt before reach || between before below (local_of note.bound)) }
+        ≡ (nat_lt before reach || between before below (local_of note.now.bound)) }
 {
     match local_of(note.bound) {
         Some(local) => {
@@ -93,7 +104,7 @@ fn reach(notes: &[Note], below: usize) -> usize
 {
     let mut most = 0;
     for note in notes {
-        most = reached(most, below, *note);
+        most = reached(most, below, note);
     }
     most
 }

@@ -5,9 +5,9 @@ ghost use Rattle.syntax_tree.specs.Bound.{bindings_of};
 ghost use Rattle.syntax_tree.specs.Names as spec;
 ghost use Rattle.syntax_tree.specs.declared.tree.FuncBody.{out-FuncBody};
 
-use crate::captured::{captures, from, skips, too_many};
+use crate::captured::{captures, from, skips, too_many, variables};
 use crate::scope::Scope;
-use crate::used::{locals_of, names_of, upvalues_of};
+use crate::used::{firsts_of, locals_of, names_of, upvalues_of};
 use byte_text::StrId;
 use resource::OutOfMemory;
 use sqlite_items::{Boxed, Items};
@@ -84,7 +84,8 @@ impl Resolver {
             at,
             bound: None,
             target: false,
-            upvalues: 0,
+            first: self.locals.len(),
+            upvalues: Items::new(self.alloc),
         })?;
         Ok(())
     }
@@ -114,7 +115,8 @@ impl Resolver {
             at,
             bound: Some(bound),
             target,
-            upvalues: 0,
+            first: self.locals.len(),
+            upvalues: Items::new(self.alloc),
         })?;
         Ok(())
     }
@@ -212,12 +214,13 @@ impl Resolver {
         self.all_visible(first, func.params.as_slice())
     }
 
-    /// Counts what a function captures, whose note has this place and whose first local this number.
+    /// Notes what a function captures, whose note has this place and whose first local this number.
     fn count(&mut self, at: usize, place: usize, first: usize) -> Result<(), OutOfMemory>
         ensures { OnOk result (self.new ≡ spec.counted at place first self.old) }
     {
         let inside = from(from(self.notes.as_slice(), place), 1);
         let names = captures(self.alloc, inside, first)?;
+        let upvalues = variables(self.alloc, names.as_slice())?;
         too_many(&mut self.faults, names.as_slice())?;
         if place < self.notes.len() {
             self.notes.set(
@@ -226,7 +229,8 @@ impl Resolver {
                     at,
                     bound: None,
                     target: false,
-                    upvalues: names.len(),
+                    first,
+                    upvalues,
                 },
             );
         }
@@ -534,11 +538,13 @@ impl Resolver {
         } = self;
         let names = names_of(alloc, notes.as_slice())?;
         let upvalues = upvalues_of(alloc, notes.as_slice())?;
+        let firsts = firsts_of(alloc, notes.as_slice())?;
         let locals = locals_of(alloc, locals.as_slice(), notes.as_slice())?;
         let bindings = Bindings {
             names,
             locals,
             upvalues,
+            firsts,
         };
         Ok((bindings, faults))
     }

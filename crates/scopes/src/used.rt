@@ -2,7 +2,7 @@
 
 ghost use Rattle.std.specs.Prelude.{◌≡◌, [], IfOk};
 ghost use Rattle.syntax_tree.specs.Bound.{used_from};
-ghost use Rattle.scopes.specs.Used.{bound_notes, upvalue_notes, marked};
+ghost use Rattle.scopes.specs.Used.{bound_notes, upvalue_notes, first_notes, marked};
 
 use crate::captured::local_of;
 use resource::OutOfMemory;
@@ -21,20 +21,31 @@ pub fn names_of(alloc: Global, notes: &[Note]) -> Result<Items<Option<Bound>>, O
     Ok(names)
 }
 
-/// How many variables each node captures.
-pub fn upvalues_of(alloc: Global, notes: &[Note]) -> Result<Items<usize>, OutOfMemory>
-    ensures { IfOk result (λ counts. counts ≡ upvalue_notes notes.now) }
+/// Which variables each node captures.
+pub fn upvalues_of(alloc: Global, notes: &[Note]) -> Result<Items<Items<usize>>, OutOfMemory>
+    ensures { IfOk result (λ lists. lists ≡ upvalue_notes notes.now) }
 {
-    let mut counts = Items::new(alloc);
+    let mut lists = Items::new(alloc);
     for note in notes {
-        counts.push(note.upvalues)?;
+        lists.push(Items::from_slice(alloc, note.upvalues.as_slice())?)?;
     }
-    Ok(counts)
+    Ok(lists)
+}
+
+/// How many locals the text declares before each node.
+pub fn firsts_of(alloc: Global, notes: &[Note]) -> Result<Items<usize>, OutOfMemory>
+    ensures { IfOk result (λ firsts. firsts ≡ first_notes notes.now) }
+{
+    let mut firsts = Items::new(alloc);
+    for note in notes {
+        firsts.push(note.first)?;
+    }
+    Ok(firsts)
 }
 
 /// Says of a local what one note says of it.
-fn mark(locals: &mut Items<LocalInfo>, note: Note)
-    ensures { locals.new ≡ marked note locals.old }
+fn mark(locals: &mut Items<LocalInfo>, note: &Note)
+    ensures { locals.new ≡ marked note.now locals.old }
 {
     if let Some(local) = local_of(note.bound) {
         if let Some(info) = locals.get(local) {
@@ -79,7 +90,7 @@ pub fn locals_of(
 {
     let mut infos = unused(alloc, locals)?;
     for note in notes {
-        mark(&mut infos, *note);
+        mark(&mut infos, note);
     }
     Ok(infos)
 }

@@ -3,6 +3,10 @@
 use byte_text::{Interner, StrId};
 use luau_lexer::lex;
 use luau_parser::parse;
+use scope_laws::{
+    declared_have_entries, functions_capture, locals_are_told, names_are_seen, names_in_scope,
+    nodes_have_firsts,
+};
 use scopes::{ScopeErr, resolve};
 use std::alloc::Global;
 use std::test::Fail;
@@ -62,6 +66,8 @@ const NAMES: [(&str, &str); 9] = [
 
 #[test]
 fn names_are_bound(rt: HostRuntime) -> Result<(), Fail> {
+    names_in_scope();
+    names_are_seen();
     for (text, expected) in &NAMES {
         let bindings = bindings(rt.alloc(), text.as_bytes())?;
         let mut shown = String::new(rt.alloc());
@@ -78,14 +84,64 @@ fn names_are_bound(rt: HostRuntime) -> Result<(), Fail> {
     Ok(())
 }
 
+// The variables that the node of that number captures, each with a blank behind it.
+fn captured(alloc: Global, bindings: &Bindings, node: usize) -> Result<String, Fail> {
+    let mut shown = String::new(alloc);
+    if let Some(variables) = bindings.upvalues.get(node) {
+        for variable in variables.as_slice() {
+            shown.push_str(format!(in alloc; "{variable} ")?.as_str())?;
+        }
+    }
+    Ok(shown)
+}
+
+// A closure takes its variables in the order in which names stand for them, also those that only a function in it uses.
+#[test]
+fn variables_have_an_order(rt: HostRuntime) -> Result<(), Fail> {
+    functions_capture();
+    let text = b"local a, b, c local function f(d) print(c, d) return function() c = b + a end end";
+    let bindings = bindings(rt.alloc(), text)?;
+    // The nodes 0, 3 and 11 are the bodies of the functions.
+    for (node, variables) in [(0, ""), (3, "2 1 0 "), (11, "2 1 0 ")] {
+        assert_eq!(rt; captured(rt.alloc(), &bindings, node)?.as_str(), variables);
+    }
+    Ok(())
+}
+
+// The number of the first local that a node declares, by the numbers of the nodes.
+#[test]
+fn first_locals_are_told(rt: HostRuntime) -> Result<(), Fail> {
+    nodes_have_firsts();
+    let text =
+        b"local a, b for i = 1, 2 do local c end for j, k in a do end local function f(x) end";
+    let bindings = bindings(rt.alloc(), text)?;
+    // The script, `a`, `i` and its first bound, `c`, `j`, `f` and `x`.
+    for (node, first) in [
+        (0, 0),
+        (1, 0),
+        (2, 2),
+        (3, 3),
+        (5, 3),
+        (6, 4),
+        (8, 6),
+        (9, 7),
+    ] {
+        assert_eq!(rt; bindings.firsts.get(node), Some(&first));
+    }
+    assert_eq!(rt; bindings.locals.len(), 8);
+    Ok(())
+}
+
 // A variable that a function sets two functions further in: each captures it, and it is marked.
 #[test]
 fn uses_are_marked(rt: HostRuntime) -> Result<(), Fail> {
+    locals_are_told();
+    declared_have_entries();
     let text = b"local a, b local function f() return function() a = 1 end end b = 2";
     let bindings = bindings(rt.alloc(), text)?;
     // The nodes 3 and 6 are the bodies of the two functions.
-    for (node, count) in [(0, 0), (3, 1), (4, 0), (6, 1)] {
-        assert_eq!(rt; bindings.upvalues.get(node), Some(&count));
+    for (node, variables) in [(0, ""), (3, "0 "), (4, ""), (6, "0 ")] {
+        assert_eq!(rt; captured(rt.alloc(), &bindings, node)?.as_str(), variables);
     }
     let marks = [(true, true), (false, true), (false, false)];
     assert_eq!(rt; bindings.locals.len(), 3);

@@ -35,7 +35,7 @@ used_from notes k [] = []
 used_from notes k (l ∷ ls) = record l { captured = is_captured notes k; assigned = is_assigned notes k } ∷ used_from notes (k + 1) ls
 
 abbrev pub bindings_of : Known → Bindings
-bindings_of k = record { names = map (λ (n : Note). n.bound) k.notes; locals = used_from k.notes 0 k.locals; upvalues = map (λ (n : Note). n.upvalues) k.notes }
+bindings_of k = record { names = map (λ (n : Note). n.bound) k.notes; locals = used_from k.notes 0 k.locals; upvalues = map (λ (n : Note). n.upvalues) k.notes; firsts = map (λ (n : Note). n.first) k.notes }
 
 -- what is known at the end of the script
 abbrev pub known : Tree → Known

@@ -1,7 +1,7 @@
 -- How long a function's code may be: 8, and 6 for each expression node, 8 for each statement node, 2 for each
 -- name declared in a Local, NumFor or GenFor, and 1 for each variable captured by a function that is made
 -- directly in it. The bodies of such functions are not counted.
-use Rattle.std.specs.Prelude.{ℕ, ◌+◌, ◌*◌, length, slice_get, List, Option, Some, None}
+use Rattle.std.specs.Prelude.{ℕ, ◌+◌, ◌*◌, length, slice_get, option_map, List, Option, Some, None}
 use Rattle.syntax_tree.specs.declared.bindings.Bindings.{Bindings}
 use Rattle.syntax_tree.specs.declared.tree.Arm.{Arm}
 use Rattle.syntax_tree.specs.declared.tree.Expr.{Expr}
@@ -75,7 +75,7 @@ stat_kind_bulk level.Continue = stat_node 0
 module _ (bindings : Bindings) where
   -- the variables that the function captures
   abbrev pub captured : ℕ → ℕ
-  captured id = or_zero (slice_get bindings.upvalues id)
+  captured id = or_zero (option_map length (slice_get bindings.upvalues id))
 
   abbrev pub steps : Steps ℕ ℕ ℕ ℕ ℕ ℕ ℕ FuncBulk ℕ
   steps = record { kind = kind_bulk; field_kind = field_kind_bulk; stat_kind = stat_kind_bulk; arm = λ a. a.cond + total a.body; expr = λ e. e.kind; expr_arm = λ a. a.cond + a.value; field = λ f. f.kind; func = λ f. record { made = captured f.id; own = 8 + total f.body }; stat = λ s. s.kind }

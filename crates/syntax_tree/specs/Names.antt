@@ -23,7 +23,7 @@ use Rattle.syntax_tree.specs.declared.tree.ExprKind.TheFolds as folds
 use Rattle.syntax_tree.specs.declared.tree.ExprKind.TheOpen as level
 use Rattle.syntax_tree.specs.declared.tree.ExprKind.TheOpen.{ExprKind-F, FieldKind-F, StatKind-F, Arm-F, Expr-F, ExprArm-F, Field-F, FuncBody-F, Stat-F}
 use Rattle.syntax_tree.specs.Fold.{Steps, at_expr, at_stat, at_func, at_arm, at_expr_arm, at_field}
-use Rattle.syntax_tree.specs.Captures.{captures, too_many}
+use Rattle.syntax_tree.specs.Captures.{captures, variables, too_many}
 use Rattle.syntax_tree.specs.Leaps.{skips}
 use Rattle.syntax_tree.specs.Scope.{look, bound_in}
 
@@ -94,7 +94,7 @@ looped loop k = outside (length k.scope) k.leaps k.func k.first (loop (opened k)
 
 -- a node that is no name and no function body
 abbrev pub plain : ℕ → Part
-plain at k = record k { notes = k.notes ++ record { at = at; bound = None; target = false; upvalues = 0 } ∷ [] }
+plain at k = record k { notes = k.notes ++ record { at = at; bound = None; target = false; first = length k.locals; upvalues = [] } ∷ [] }
 
 -- what a name is bound to here
 abbrev pub bound_here : StrId → Known → Bound
@@ -102,7 +102,7 @@ bound_here name k = bound_in k.first (look name k.scope)
 
 -- a name
 abbrev pub named : ℕ → StrId → Bool → Part
-named at name target k = record k { notes = k.notes ++ record { at = at; bound = Some (bound_here name k); target = target; upvalues = 0 } ∷ [] }
+named at name target k = record k { notes = k.notes ++ record { at = at; bound = Some (bound_here name k); target = target; first = length k.locals; upvalues = [] } ∷ [] }
 
 -- the condition of a `repeat` may use what a `continue` of it skips
 abbrev pub until : Part → Part
@@ -115,11 +115,11 @@ enter id at params k =
     all_visible (length t.locals) params (locals params (record t { func = id; first = length t.locals }))
 
 -- A function was read whose note stands at `place`, before those of what is in it, and whose first parameter or local
--- has the number `first`: its note gets the count of what it captures.
+-- has the number `first`: its note gets what it captures.
 abbrev pub counted : ℕ → ℕ → ℕ → Part
 counted at place first k =
     let names = captures first (drop 1 (drop place k.notes)) in
-    record k { notes = slice_set k.notes place (record { at = at; bound = None; target = false; upvalues = length names }); faults = k.faults ++ too_many names }
+    record k { notes = slice_set k.notes place (record { at = at; bound = None; target = false; first = first; upvalues = variables names }); faults = k.faults ++ too_many names }
 
 -- a function body
 abbrev pub function : ℕ → ℕ → List StrId → Part → Part

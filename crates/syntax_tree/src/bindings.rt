@@ -33,6 +33,11 @@ pub struct Bindings {
     pub names: Items<Option<Bound>>,
     /// The locals and parameters in the order in which the text declares them.
     pub locals: Items<LocalInfo>,
-    /// By node number: how many variables a function body captures, and 0 at every other node.
-    pub upvalues: Items<usize>,
+    /// By node number: the variables that a function body captures, and none at every other node. They are numbers of
+    /// locals, each once, in the order in which the closure takes them: that of the first names in the body that stand
+    /// for them. The place of a variable in this list is the number of the upvalue.
+    pub upvalues: Items<Items<usize>>,
+    /// By node number: how many locals the text declares before the node. Where the node declares locals itself, as a
+    /// `local`, a loop or a function body with parameters does, this is the number of the first of them.
+    pub firsts: Items<usize>,
 }

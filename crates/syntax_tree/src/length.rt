@@ -22,7 +22,7 @@ fn captured(func: &FuncBody, bindings: &Bindings) -> usize
     ensures { result ≡ min (spec.bulk_func bindings.now func.now).made usize.MAX }
 {
     match bindings.upvalues.get(func.id) {
-        Some(count) => *count,
+        Some(variables) => variables.len(),
         None => 0,
     }
 }

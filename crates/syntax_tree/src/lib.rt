@@ -24,7 +24,7 @@ pub use level::Level;
 pub use limits::{MOST_BULK, MOST_NESTED, MOST_REGISTERS, MOST_VARIABLES};
 pub use names::fixed_names;
 pub use nesting::nest;
-pub use notes::{Leap, Note, Place, Visible};
+pub use notes::{Capture, Leap, Note, Place, Visible};
 pub use token::{Token, TokenKind};
 pub use tree::{
     Arm, BinOp, Expr, ExprArm, ExprKind, Field, FieldKind, FuncBody, Stat, StatKind, Tree, UnOp,

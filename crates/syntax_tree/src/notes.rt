@@ -2,9 +2,10 @@
 
 use crate::bindings::Bound;
 use byte_text::StrId;
+use sqlite_items::Items;
 
 /// What is said of one node.
-#[derive(Clone, Copy, PartialEq, Eq, Hash, Debug)]
+#[derive(Drop)]
 pub struct Note {
     /// The place of the node.
     pub at: usize,
@@ -12,8 +13,19 @@ pub struct Note {
     pub bound: Option<Bound>,
     /// Whether the node is a name that an assignment sets.
     pub target: bool,
-    /// How many variables a function body captures, and 0 at every other node.
-    pub upvalues: usize,
+    /// How many locals the text declares before the node.
+    pub first: usize,
+    /// The variables that a function body captures, by the numbers of their locals, and none at every other node.
+    pub upvalues: Items<usize>,
+}
+
+/// A name by which a function captures a variable.
+#[derive(Clone, Copy, PartialEq, Eq, Hash, Debug)]
+pub struct Capture {
+    /// The place of the name.
+    pub at: usize,
+    /// The number of the variable's local.
+    pub local: usize,
 }
 
 /// A name that is visible, and the number of its local.

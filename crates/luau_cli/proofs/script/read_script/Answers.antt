@@ -1,7 +1,10 @@
-use Rattle.std.proofs.Common.{◌∙◌, sym, subst}
+use Rattle.std.proofs.Common.{◌∙◌, sym, ap, subst}
 use Rattle.luau_lexer.proofs.OneTokenList.{lexed}
 use Rattle.syntax_tree.specs.Parsed.{IsParsed}
 use Rattle.luau_parser.specs.Refusals.{IsRefusal}
+use Rattle.emit_stat.specs.Unbuilt.{first_unbuilt}
+use Rattle.luau_cli.specs.Refusals.{statements}
+use Rattle.luau_cli.proofs.Bindings.{parsed_bound}
 use Rattle.luau_cli.proofs.Readings.{refused_reading, without_tokens, without_tree, with_fault}
 use Rattle.luau_cli.proofs.script.read_script.Goals as goal
 
@@ -21,8 +24,21 @@ returns-in-Err-resolve-clause-reading c =
     let parsed = subst (λ ts. IsParsed ts c.in-Ok-parse.tree) c.as_slice.ensures.value c.in-Ok-parse.ensures.tree in
     refused_reading _ _ _ c.refused-in-Err-resolve.result c.refused-in-Err-resolve.ensures c.refusal-in-Err-resolve.ensures (with_fault _ _ c.in-Ok-parse.tree _ spelled parsed c.in-Err-resolve.ensures)
 
+pub first_unbuilt-requires : goal.first_unbuilt-requires
+first_unbuilt-requires c =
+    let parsed = subst (λ ts. IsParsed ts c.in-Ok-parse.tree) c.as_slice.ensures.value c.in-Ok-parse.ensures.tree in
+    parsed_bound _ c.in-Ok-parse.tree c.in-Ok-resolve.bindings parsed c.in-Ok-resolve.ensures.1
+
 pub returns-in-Some-clause-reading : goal.returns-in-Some-clause-reading
 returns-in-Some-clause-reading c =
     let spelled = lexed _ _ _ c.in-Ok.tokens.items c.new-names.ensures c.in-Ok.ensures.tokens in
     let parsed = subst (λ ts. IsParsed ts c.in-Ok-parse.tree) c.as_slice.ensures.value c.in-Ok-parse.ensures.tree in
-    record { tree = c.in-Ok-parse.tree; accepted = record { tokens = _; spelled = spelled; parsed = parsed; unbroken = c.in-Ok-resolve.ensures.0 }; first = sym c.in_ok-at.ensures.place ∙ c.in-Some.is }
+    let place = ap (λ b. first_unbuilt b (statements c.in-Ok-parse.tree)) (sym c.in-Ok-resolve.ensures.1) ∙ sym c.first_unbuilt.ensures.place in
+    record { tree = c.in-Ok-parse.tree; accepted = record { tokens = _; spelled = spelled; parsed = parsed; unbroken = c.in-Ok-resolve.ensures.0 }; first = place ∙ c.in-Some.is }
+
+pub returns-clause-reading : goal.returns-clause-reading
+returns-clause-reading c =
+    let spelled = lexed _ _ _ c.in-Ok.tokens.items c.new-names.ensures c.in-Ok.ensures.tokens in
+    let parsed = subst (λ ts. IsParsed ts c.in-Ok-parse.tree) c.as_slice.ensures.value c.in-Ok-parse.ensures.tree in
+    let place = ap (λ b. first_unbuilt b (statements c.in-Ok-parse.tree)) (sym c.in-Ok-resolve.ensures.1) ∙ sym c.first_unbuilt.ensures.place in
+    record { accepted = record { tokens = _; spelled = spelled; parsed = parsed; unbroken = c.in-Ok-resolve.ensures.0 }; built = place ∙ c.in-None.is }

@@ -1,4 +1,4 @@
-use Rattle.std.proofs.Common.{rules, ◌≡◌, ◌∙◌, ◌≤◌, ◌++◌, length, sym, ap, append-nil}
+use Rattle.std.proofs.Common.{rules, ◌∙◌, ◌≤◌, ◌++◌, length, sym, ap, append-nil}
 use Rattle.syntax_tree.specs.Limits.{most_variables}
 use Rattle.scopes.proofs.Turns.{few}
 use Rattle.scopes.proofs.captured.too_many.Goals as goal

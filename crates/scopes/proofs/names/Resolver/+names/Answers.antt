@@ -1,6 +1,4 @@
 use Rattle.std.proofs.Common.{rules}
-use Rattle.syntax_tree.specs.declared.tree.ExprKind.TheFolds as folds
-use Rattle.syntax_tree.specs.declared.tree.ExprKind.TheViews as views
 use Rattle.scopes.proofs.ArmNames.{arm_is}
 use Rattle.scopes.proofs.names.Resolver.+names.Goals as goal
 

@@ -1,0 +1,325 @@
+-- What stands in a part, and behind it.
+use Rattle.std.proofs.Common.{◌≡◌, ◌∙◌, ℕ, ◌+◌, ◌≤◌, ◌==◌, Bool, true, false, List, [], ◌∷◌, ◌++◌, map, length, reverse, Option, Some, None, IsSome, refl, sym, ap, ap₂, subst, rules, arith, append-nil, append_assoc, if◌then◌else◌}
+use Rattle.std.specs.Prelude.{nat_lt}
+use Rattle.std.proofs.lemmas.Bool.{le-ltb}
+use Rattle.std.proofs.lemmas.List.{reverse-append, reverse-reverse, map-append}
+use Rattle.byte_text.specs.declared.fixed.StrId.{StrId}
+use Rattle.syntax_tree.specs.declared.bindings.Bindings.{Bindings}
+use Rattle.syntax_tree.specs.declared.bindings.Bound.TheVariants as variant
+use Rattle.syntax_tree.specs.declared.notes.Visible.{Visible}
+use Rattle.syntax_tree.specs.declared.tree.Arm.{Arm, out-Arm}
+use Rattle.syntax_tree.specs.declared.tree.Expr.{Expr}
+use Rattle.syntax_tree.specs.declared.tree.ExprKind.{out-ExprKind}
+use Rattle.syntax_tree.specs.declared.tree.ExprKind as expr_kind
+use Rattle.syntax_tree.specs.declared.tree.ExprKind.TheOpen as level
+use Rattle.syntax_tree.specs.declared.tree.ExprKind.TheViews as views
+use Rattle.syntax_tree.specs.declared.tree.Stat.{Stat}
+use Rattle.syntax_tree.specs.declared.tree.StatKind.{out-StatKind}
+use Rattle.syntax_tree.specs.declared.tree.StatKind as stat_kind
+use Rattle.syntax_tree.specs.Lists.{or_zero}
+use Rattle.syntax_tree.specs.Numbers.{numbered}
+use Rattle.syntax_tree.specs.Scope.{look, unless_later, bound_in}
+use Rattle.scope_laws.specs.Declares.{steps, declares_stat}
+use Rattle.scope_laws.specs.Sight.{Sight, Part, ExprLevel, StatLevel, expr, stat, arm, block, shows, stat_shows, behind, visible, else_block, expr_parts, in_stat, in_part, Sees, next, enter}
+use Rattle.scope_laws.proofs.Levels.{at_stat_level, stat_is, stat_kind_is}
+use Rattle.scope_laws.proofs.Seen.{names_in_scope, nodes_have_firsts}
+use Rattle.emit_stat.specs.Form.{register_of, names_after, names_beyond}
+use Rattle.emit_stat.specs.Standing.{entry, bound_at, first_at, names_of, scope_after, AreBelow, Stand}
+
+no_none : {n : ℕ} → Some n ≡ None → ⊥
+no_none h = search rules
+
+no_some : {n : ℕ} → None ≡ Some n → ⊥
+no_some h = search rules
+
+not_local : {k : ℕ} → Some variant.Global ≡ Some (variant.Local k) → ⊥
+not_local h = search rules
+
+not_global : {k : ℕ} → Some (variant.Local k) ≡ Some variant.Global → ⊥
+not_global h = search rules
+
+-- ---- numbers of locals
+
+pub below_more : (n m : ℕ) (vs : List Visible) → n ≤ m → AreBelow n vs → AreBelow m vs
+below_more n m [] le h = tt
+below_more n m (v ∷ vs) le h = (omega (arith, le, h.0), h.1)
+
+-- new locals, which are numbered from n on
+below_new : (n : ℕ) (xs : List StrId) (vs : List Visible) → AreBelow n vs → AreBelow (n + length xs) (reverse (visible n xs) ++ vs)
+below_new n [] vs h = below_more n (n + 0) vs (omega arith) h
+below_new n (x ∷ xs) vs h =
+    let v : Visible = record { name = x; local = n } in
+    let more : AreBelow (n + 1 + length xs) (reverse (visible (n + 1) xs) ++ v ∷ vs) = below_new (n + 1) xs (v ∷ vs) (omega arith, h) in
+    let same : reverse (visible (n + 1) xs) ++ v ∷ vs ≡ reverse (v ∷ visible (n + 1) xs) ++ vs =
+    sym (append_assoc (reverse (visible (n + 1) xs)) (v ∷ []) vs) ∙ ap (λ l. l ++ vs) (sym (reverse-append (v ∷ []) (visible (n + 1) xs))) in
+    below_more (n + 1 + length xs) (n + length (x ∷ xs)) (reverse (v ∷ visible (n + 1) xs) ++ vs) (omega arith) (subst (AreBelow (n + 1
+    + length xs)) same more)
+
+visible_length : (n : ℕ) (xs : List StrId) → length (visible n xs) ≡ length xs
+visible_length n [] = refl
+visible_length n (x ∷ xs) = omega (arith, visible_length (n + 1) xs)
+
+in_reverse : {A : Type 0} (xs ys : List A) → reverse xs ++ ys ≡ reverse (reverse ys ++ xs)
+in_reverse xs ys = sym (reverse-append (reverse ys) xs ∙ ap (λ z. reverse xs ++ z) (reverse-reverse ys))
+
+visible_names : (n : ℕ) (xs : List StrId) → names_of (visible n xs) ≡ xs
+visible_names n [] = refl
+visible_names n (x ∷ xs) = ap (λ z. x ∷ z) (visible_names (n + 1) xs)
+
+map-reverse : {A B : Type 0} (f : A → B) (xs : List A) → map f (reverse xs) ≡ reverse (map f xs)
+map-reverse f [] = refl
+map-reverse f (x ∷ xs) =
+    ap (map f) (reverse-append (x ∷ []) xs) ∙ map-append f (reverse xs) (x ∷ []) ∙ ap (λ z. z ++ f x ∷ []) (map-reverse f xs)
+    ∙ sym (reverse-append (f x ∷ []) (map f xs))
+
+reversed_names : (n : ℕ) (xs : List StrId) (vs : List Visible) → names_of (reverse (visible n xs) ++ vs) ≡ reverse xs ++ names_of vs
+reversed_names n xs vs =
+    map-append (λ (v : Visible). v.name) (reverse (visible n xs)) vs
+    ∙ ap (λ z. z ++ names_of vs) (map-reverse (λ (v : Visible). v.name) (visible n xs) ∙ ap reverse (visible_names n xs))
+
+-- ---- inside a part
+
+pub in_expr : (b : Bindings) (vs : List Visible) (e : Expr) (after : List Part) (l : ExprLevel) → Stand b vs (expr e ∷ after) →
+    out-ExprKind e.kind ≡ l → Stand b vs (expr_parts l)
+in_expr b vs e after l s h = record {
+  main = s.main;
+  is = s.is;
+  sight = s.sight;
+  seen = subst (λ l. Sees (numbered s.main).main s.sight (expr_parts l)) h (enter s.sight (expr e) after s.seen);
+  scope = s.scope;
+  first = s.first;
+  below = s.below;
+}
+
+-- behind a part that makes nothing visible
+pub behind_quiet : (b : Bindings) (vs : List Visible) (p : Part) (ps : List Part) → ((n : ℕ) → shows p n ≡ []) → Stand b vs (p ∷ ps) →
+    Stand b vs ps
+behind_quiet b vs p ps quiet s = record {
+  main = s.main;
+  is = s.is;
+  sight = behind p s.sight;
+  seen = next s.sight p ps s.seen;
+  scope = ap (λ l. s.sight.scope ++ l) (quiet s.sight.declared) ∙ append-nil s.sight.scope ∙ s.scope;
+  first = s.first;
+  below = below_more s.sight.declared (behind p s.sight).declared vs (omega arith) s.below;
+}
+
+-- a statement whose parts see what it sees
+pub record SeesSame (l : StatLevel) : Type 0 where
+  pub scope : (s : Sight) → (in_stat l s).sight.scope ≡ s.scope
+  pub first : (s : Sight) → (in_stat l s).sight.first ≡ s.first
+  pub declared : (s : Sight) → s.declared ≤ (in_stat l s).sight.declared
+
+in_statement : (b : Bindings) (vs : List Visible) (x : Stat) (after : List Part) (l : StatLevel) (parts : List Part) → SeesSame l →
+    ((s : Sight) → (in_stat l s).parts ≡ parts) → Stand b vs (stat x ∷ after) → out-StatKind x.kind ≡ l → Stand b vs parts
+in_statement b vs x after l parts same are s h = record {
+  main = s.main;
+  is = s.is;
+  sight = (in_stat l s.sight).sight;
+  seen = subst (Sees (numbered s.main).main (in_stat l s.sight).sight) (are s.sight)
+      (subst (λ l. Sees (numbered s.main).main (in_stat l s.sight).sight (in_stat l s.sight).parts) h (enter s.sight (stat x) after s.seen));
+  scope = same.scope s.sight ∙ s.scope;
+  first = same.first s.sight ∙ s.first;
+  below = below_more s.sight.declared (in_stat l s.sight).sight.declared vs (same.declared s.sight) s.below;
+}
+
+pub in_local : (b : Bindings) (vs : List Visible) (x : Stat) (after : List Part) (xs : List StrId) (es : List Expr) →
+    Stand b vs (stat x ∷ after) → x.kind ≡ stat_kind.Local xs es → Stand b vs (map expr es)
+in_local b vs x after xs es s k =
+    in_statement b vs x after (level.Local xs es) (map expr es) (record { scope = λ s. refl; first = λ s. refl; declared = λ s. omega arith })
+    (λ s. refl) s (ap out-StatKind k ∙ views.outs-Local xs es)
+
+pub in_assignment : (b : Bindings) (vs : List Visible) (x : Stat) (after : List Part) (ts es : List Expr) → Stand b vs (stat x ∷ after) →
+    x.kind ≡ stat_kind.Assign ts es → Stand b vs (map expr ts ++ map expr es)
+in_assignment b vs x after ts es s k =
+    in_statement b vs x after (level.Assign ts es) (map expr ts ++ map expr es) (record {
+      scope = λ s. refl;
+      first = λ s. refl;
+      declared = λ
+          s. omega arith;
+    })
+    (λ s. refl) s (ap out-StatKind k ∙ views.outs-Assign ts es)
+
+pub in_call_statement : (b : Bindings) (vs : List Visible) (x : Stat) (after : List Part) (call : Expr) → Stand b vs (stat x ∷ after) →
+    x.kind ≡ stat_kind.Call call → Stand b vs (expr call ∷ [])
+in_call_statement b vs x after call s k =
+    in_statement b vs x after (level.StatKind::Call call) (expr call ∷ []) (record {
+      scope = λ s. refl;
+      first = λ s. refl;
+      declared = λ
+          s. omega arith;
+    })
+    (λ s. refl) s (ap out-StatKind k ∙ views.outs-StatKind::Call call)
+
+pub in_branch : (b : Bindings) (vs : List Visible) (x : Stat) (after : List Part) (arms : List Arm) (other : Option (List Stat)) →
+    Stand b vs (stat x ∷ after) → x.kind ≡ stat_kind.If arms other → Stand b vs (map arm arms ++ else_block other)
+in_branch b vs x after arms other s k =
+    in_statement b vs x after (level.StatKind::If arms other) (map arm arms ++ else_block other)
+    (record { scope = λ s. refl; first = λ s. refl; declared = λ s. omega arith }) (λ s. refl) s
+    (ap out-StatKind k ∙ views.outs-StatKind::If arms other)
+
+pub in_loop : (b : Bindings) (vs : List Visible) (x : Stat) (after : List Part) (cond : Expr) (body : List Stat) →
+    Stand b vs (stat x ∷ after) → x.kind ≡ stat_kind.While cond body → Stand b vs (expr cond ∷ block [] body ∷ [])
+in_loop b vs x after cond body s k =
+    in_statement b vs x after (level.While cond body) (expr cond ∷ block [] body ∷ [])
+    (record { scope = λ s. refl; first = λ s. refl; declared = λ s. omega arith }) (λ s. refl) s (ap out-StatKind k
+    ∙ views.outs-While cond body)
+
+pub in_arm : (b : Bindings) (vs : List Visible) (a : Arm) (after : List Part) → Stand b vs (arm a ∷ after) →
+    Stand b vs (expr (out-Arm a).cond ∷ block [] (out-Arm a).body ∷ [])
+in_arm b vs a after s = record {
+  main = s.main;
+  is = s.is;
+  sight = s.sight;
+  seen = enter s.sight (arm a) after s.seen;
+  scope = s.scope;
+  first = s.first;
+  below = s.below;
+}
+
+pub in_block : (b : Bindings) (vs : List Visible) (body : List Stat) (after : List Part) → Stand b vs (block [] body ∷ after) →
+    Stand b vs (map stat body)
+in_block b vs body after s = record {
+  main = s.main;
+  is = s.is;
+  sight = (in_part (block [] body) s.sight).sight;
+  seen = enter s.sight (block [] body) after s.seen;
+  scope = append-nil s.sight.scope ∙ s.scope;
+  first = s.first;
+  below = s.below;
+}
+
+-- the block behind a condition
+pub behind_condition : (b : Bindings) (vs : List Visible) (cond : Expr) (body : List Stat) → Stand b vs (expr cond ∷ block [] body ∷ []) →
+    Stand b vs (map stat body)
+behind_condition b vs cond body s = in_block b vs body [] (behind_quiet b vs (expr cond) (block [] body ∷ []) (λ n. refl) s)
+
+-- the block of `else`
+pub in_else : (b : Bindings) (vs : List Visible) (x : Stat) (after : List Part) (a : Arm) (others : List Stat) →
+    Stand b vs (stat x ∷ after) → x.kind ≡ stat_kind.If (a ∷ []) (Some others) → Stand b vs (map stat others)
+in_else b vs x after a others s k =
+    in_block b vs others [] (behind_quiet b vs (arm a) (block [] others ∷ []) (λ n. refl) (in_branch b vs x after (a ∷ []) (Some others) s k))
+
+-- ---- behind a statement
+
+level_declares : (l : StatLevel) (n : ℕ) → length (stat_shows l n) ≤ at_stat_level steps l
+level_declares (level.Local xs es) n = omega (arith, visible_length n xs)
+level_declares (level.LocalFunction x f) n = omega arith
+level_declares (level.Assign ts es) n = omega arith
+level_declares (level.Compound op a c) n = omega arith
+level_declares (level.StatKind::Call c) n = omega arith
+level_declares (level.Do body) n = omega arith
+level_declares (level.While a body) n = omega arith
+level_declares (level.Repeat body a) n = omega arith
+level_declares (level.StatKind::If arms other) n = omega arith
+level_declares (level.NumFor x a c by body) n = omega arith
+level_declares (level.GenFor xs es body) n = omega arith
+level_declares (level.Return es) n = omega arith
+level_declares level.Break n = omega arith
+level_declares level.Continue n = omega arith
+
+-- what a statement makes visible are new locals
+level_below : (l : StatLevel) (n m : ℕ) (vs : List Visible) → length (stat_shows l n) ≤ m → AreBelow n vs → AreBelow (n + m) (reverse
+    (stat_shows l n) ++ vs)
+level_below (level.Local xs es) n m vs le h =
+    below_more (n + length xs) (n + m) (reverse (visible n xs) ++ vs) (omega (arith, le, visible_length n xs)) (below_new n xs vs h)
+level_below (level.LocalFunction x f) n m vs le h = below_more (n + 1) (n + m) (record { name = x; local = n } ∷ vs) (omega (arith, le)) (
+  omega
+      arith,
+  h,
+)
+level_below _ n m vs le h = below_more n (n + m) vs (omega arith) h
+
+first_is : (b : Bindings) (vs : List Visible) (x : Stat) (after : List Part) (s : Stand b vs (stat x ∷ after)) →
+    first_at b x.id ≡ s.sight.declared
+first_is b vs x after s =
+    ap (λ (b : Bindings). first_at b x.id) s.is
+    ∙ ap or_zero (nodes_have_firsts s.main (numbered s.main) s.sight (stat x) after x.id refl s.seen refl)
+
+pub behind_statement : (b : Bindings) (vs : List Visible) (x : Stat) (after : List Part) → Stand b vs (stat x ∷ after) →
+    Stand b (scope_after b vs x) after
+behind_statement b vs x after s =
+    let l : StatLevel = out-StatKind x.kind in
+    let n : ℕ = s.sight.declared in
+    let declares : declares_stat x ≡ at_stat_level steps l = stat_is steps x ∙ stat_kind_is steps x.kind in
+    let is : reverse (stat_shows l n) ++ vs ≡ scope_after b vs x = ap (λ n. reverse (stat_shows l n) ++ vs) (sym (first_is b vs x after s)) in
+    subst (λ vs. Stand b vs after) is
+    (record {
+      main = s.main;
+      is = s.is;
+      sight = behind (stat x) s.sight;
+      seen = next s.sight (stat x) after s.seen;
+      scope = ap (λ z. z ++ stat_shows l n) s.scope ∙ in_reverse vs (stat_shows l n);
+      first = s.first;
+      below = level_below l n (declares_stat x) vs (omega (arith, declares, level_declares l n)) s.below;
+    })
+
+-- ---- names
+
+level_names : (l : StatLevel) (n : ℕ) (vs : List Visible) → names_of (reverse (stat_shows l n) ++ vs) ≡ names_beyond l (names_of vs)
+level_names (level.Local xs es) n vs = reversed_names n xs vs
+level_names (level.LocalFunction x f) n vs = refl
+level_names _ n vs = refl
+
+pub names_behind : (b : Bindings) (vs : List Visible) (x : Stat) → names_of (scope_after b vs x) ≡ names_after (names_of vs) x
+names_behind b vs x = level_names (out-StatKind x.kind) (first_at b x.id) vs
+
+-- what a name is bound to
+pub name_bound : (b : Bindings) (vs : List Visible) (e : Expr) (after : List Part) (x : StrId) → Stand b vs (expr e ∷ after) →
+    e.kind ≡ expr_kind.Name x → bound_at b e.id ≡ Some (bound_in 0 (look x (reverse vs)))
+name_bound b vs e after x s k =
+    ap (λ (b : Bindings). bound_at b e.id) s.is
+    ∙ ap entry (names_in_scope s.main (numbered s.main) s.sight e after x refl s.seen k)
+    ∙ ap₂ (λ first scope. Some (bound_in first (look x scope))) s.first s.scope
+
+-- ---- looking up
+
+abbrev newest : Bool → ℕ → Option ℕ → Option ℕ
+newest same local older = if same then Some local else older
+
+later_newest : (same older : Bool) (local n : ℕ) (o : Option ℕ) → unless_later older n (newest same local o) ≡ newest same local (unless_later older n o)
+later_newest true older local n o = refl
+later_newest false older local n o = refl
+
+only_newest : (same : Bool) (local : ℕ) → unless_later same local None ≡ newest same local None
+only_newest true local = refl
+only_newest false local = refl
+
+look_last : (x : StrId) (v : Visible) (ws : List Visible) → look x (ws ++ v ∷ []) ≡ newest (v.name.0 == x.0) v.local (look x ws)
+look_last x v [] = only_newest (v.name.0 == x.0) v.local
+look_last x v (w ∷ ws) =
+    ap (unless_later (w.name.0 == x.0) w.local) (look_last x v ws)
+    ∙ later_newest (v.name.0 == x.0) (w.name.0 == x.0) v.local w.local (look x ws)
+
+pub look_first : (x : StrId) (v : Visible) (vs : List Visible) → look x (reverse (v ∷ vs)) ≡ newest (v.name.0 == x.0) v.local (look x (reverse vs))
+look_first x v vs = ap (look x) (reverse-append (v ∷ []) vs) ∙ look_last x v (reverse vs)
+
+-- a name has a register exactly where it stands for a local
+pub record SameFound (o r : Option ℕ) : Type 0 where
+  pub none : o ≡ None → r ≡ None
+  pub some : (k : ℕ) → o ≡ Some k → IsSome r
+
+found_by : (same : Bool) (local register : ℕ) (o r : Option ℕ) → SameFound o r → SameFound (newest same local o) (if same then Some register else r)
+found_by true local register o r h = record { none = λ e. absurd (no_none e); some = λ k e. refl }
+found_by false local register o r h = h
+
+pub look_register : (x : StrId) (vs : List Visible) → SameFound (look x (reverse vs)) (register_of (names_of vs) x)
+look_register x [] = record { none = λ e. refl; some = λ k e. absurd (no_some e) }
+look_register x (v ∷ vs) =
+    subst (λ o. SameFound o (register_of (names_of (v ∷ vs)) x)) (sym (look_first x v vs))
+    (found_by (v.name.0 == x.0) v.local (length (names_of vs)) (look x (reverse vs)) (register_of (names_of vs) x) (look_register x vs))
+
+-- what a name's binding says of its register
+pub local_register : (o r : Option ℕ) (k : ℕ) → SameFound o r → Some (bound_in 0 o) ≡ Some (variant.Local k) → IsSome r
+local_register None r k h e = absurd (not_local e)
+local_register (Some j) r k h e = h.some j refl
+
+-- the main function sees no local of a function around
+pub in_main : (j : ℕ) → Some (bound_in 0 (Some j)) ≡ Some (variant.Local j)
+in_main j = ap (λ b. Some (if b then variant.Up j else variant.Local j)) (not_below j) where
+  not_below : (j : ℕ) → nat_lt j 0 ≡ false
+  not_below j = le-ltb j 0 (omega arith)
+
+pub global_register : (o r : Option ℕ) → SameFound o r → Some (bound_in 0 o) ≡ Some variant.Global → r ≡ None
+global_register None r h e = h.none refl
+global_register (Some j) r h e = absurd (not_global (sym (in_main j) ∙ e))

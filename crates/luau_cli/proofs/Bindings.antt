@@ -1,0 +1,26 @@
+-- The tree that is read, with its bindings.
+use Rattle.std.proofs.Common.{◌≡◌, ◌∙◌, List, [], ap, rules}
+use Rattle.syntax_tree.specs.declared.bindings.Bindings.{Bindings}
+use Rattle.syntax_tree.specs.declared.token.Token.{Token}
+use Rattle.syntax_tree.specs.declared.tree.ExprKind.TheFolds as folds
+use Rattle.syntax_tree.specs.declared.tree.ExprKind.TheViews as views
+use Rattle.syntax_tree.specs.declared.tree.FuncBody.{out-FuncBody}
+use Rattle.syntax_tree.specs.declared.tree.Stat.{Stat}
+use Rattle.syntax_tree.specs.declared.tree.Tree.{Tree}
+use Rattle.syntax_tree.specs.Bound.{bound}
+use Rattle.syntax_tree.specs.Derivations.{main_function}
+use Rattle.syntax_tree.specs.Numbers.{numbered}
+use Rattle.syntax_tree.specs.Parsed.{IsParsed}
+use Rattle.emit_stat.specs.Standing.{IsBound}
+
+-- numbers change no parameters
+no_parameters : (block : List Stat) → (out-FuncBody (numbered (main_function block)).main).params ≡ []
+no_parameters block = search (rules, folds.the_lemmas, views.the_lemmas)
+
+pub parsed_bound : (tokens : List Token) (tree : Tree) (b : Bindings) → IsParsed tokens tree → b ≡ bound tree → IsBound tree b
+parsed_bound tokens tree b p is = record {
+  main = main_function p.0.block;
+  numbers = p.0.numbers;
+  is = is;
+  none = ap (λ (t : Tree). (out-FuncBody t.main).params) p.0.numbers ∙ no_parameters p.0.block;
+}
