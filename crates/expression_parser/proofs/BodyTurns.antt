@@ -14,7 +14,8 @@ use Rattle.parse_steps.specs.Steps.{most, Leads}
 use Rattle.expression_parser.specs.declared.fault.Fault.{Fault}
 use Rattle.expression_parser.specs.declared.parts.Block.{Block}
 use Rattle.expression_parser.specs.declared.parts.Parameters.{Parameters}
-use Rattle.expression_parser.specs.Reading.{Fails, FindsGenerics, FindsWord, FindsParameters, FindsTyping, FindsBlock, FindsBody}
+use Rattle.expression_parser.specs.Reading.{Fails, FindsGenerics, FindsWord, FindsBlock, FindsBody}
+use Rattle.expression_parser.specs.Inner.{FindsParameters, FindsTyping}
 use Rattle.expression_parser.proofs.Leading.{then_leads, then_fails, staying}
 
 -- ---- what is still to be read behind each part

@@ -19,7 +19,8 @@ use Rattle.expression_parser.specs.declared.fault.Fault.{Fault}
 use Rattle.expression_parser.specs.declared.fault.Fault.TheVariants as fault
 use Rattle.expression_parser.specs.declared.parts.ArmPart.{ArmPart}
 use Rattle.expression_parser.specs.declared.parts.Part.{Part}
-use Rattle.expression_parser.specs.Reading.{Fails, FindsLevel, FindsArm, FindsOther, FindsChoices, expr_arm}
+use Rattle.expression_parser.specs.Reading.{Fails, FindsLevel, expr_arm}
+use Rattle.expression_parser.specs.Inner.{FindsArm, FindsOther, FindsChoices}
 use Rattle.expression_parser.proofs.Leading.{then_leads, then_fails, taking, stuck_here, nest_to}
 use Rattle.expression_parser.proofs.WordTurns.{at_word, no_word}
 

@@ -14,7 +14,8 @@ use Rattle.parse_steps.specs.Levels.{rank_of, next}
 use Rattle.parse_steps.specs.Steps.{most, Leads, here}
 use Rattle.expression_parser.specs.declared.fault.Fault.{Fault}
 use Rattle.expression_parser.specs.declared.parts.Part.{Part}
-use Rattle.expression_parser.specs.Reading.{Fails, FindsOperations, FindsClimb, FindsRun, FindsLevel, FindsUnary, FindsSimple, FindsCast, FindsPower}
+use Rattle.expression_parser.specs.Reading.{Fails, FindsLevel, FindsUnary}
+use Rattle.expression_parser.specs.Inner.{FindsOperations, FindsClimb, FindsRun, FindsSimple, FindsCast, FindsPower}
 use Rattle.expression_parser.proofs.Leading.{then_leads, then_fails}
 use Rattle.expression_parser.proofs.OperatorRuns.{as_operand}
 use Rattle.expression_parser.proofs.ExpressionTurns.{at_level, to_the_greater, climb_depth, no_unary_operator}

@@ -16,7 +16,8 @@ use Rattle.parse_steps.specs.Steps.{most, Leads, here}
 use Rattle.type_skip.proofs.WordTests.{has, lacks}
 use Rattle.expression_parser.specs.declared.fault.Fault.{Fault}
 use Rattle.expression_parser.specs.declared.parts.FieldPart.{FieldPart}
-use Rattle.expression_parser.specs.Reading.{FindsField, FindsFields, FindsWord}
+use Rattle.expression_parser.specs.Reading.{FindsWord}
+use Rattle.expression_parser.specs.Inner.{FindsField, FindsFields}
 use Rattle.expression_parser.proofs.Leading.{then_leads, then_fails, taking, nest_to}
 use Rattle.expression_parser.proofs.SameTurns.{same_leads, same_fails}
 

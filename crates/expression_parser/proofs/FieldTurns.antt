@@ -24,7 +24,8 @@ use Rattle.parse_steps.specs.Steps.{most, Leads}
 use Rattle.type_skip.proofs.WordTests.{stands_not}
 use Rattle.expression_parser.specs.declared.fault.Fault.{Fault}
 use Rattle.expression_parser.specs.declared.parts.Part.{Part}
-use Rattle.expression_parser.specs.Reading.{Fails, FindsLevel, FindsWord, FindsField}
+use Rattle.expression_parser.specs.Reading.{Fails, FindsLevel, FindsWord}
+use Rattle.expression_parser.specs.Inner.{FindsField}
 use Rattle.expression_parser.proofs.Leading.{then_leads, then_fails, staying, taking, nest_to}
 use Rattle.expression_parser.proofs.SameTurns.{word_missing, peel_stay, peel_take, peel_stay_fails, peel_take_fails}
 use Rattle.expression_parser.proofs.WordTurns.{no_name}

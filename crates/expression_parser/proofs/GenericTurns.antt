@@ -14,7 +14,8 @@ use Rattle.type_skip.specs.Words.{is_word}
 use Rattle.parse_steps.specs.Steps.{most, Leads}
 use Rattle.type_skip.proofs.WordTests.{has, lacks}
 use Rattle.expression_parser.specs.declared.fault.Fault.{Fault}
-use Rattle.expression_parser.specs.Reading.{FindsName, FindsType, FindsWord, FindsGeneric, FindsGenerics}
+use Rattle.expression_parser.specs.Reading.{FindsName, FindsType, FindsWord, FindsGenerics}
+use Rattle.expression_parser.specs.Inner.{FindsGeneric}
 use Rattle.expression_parser.proofs.Leading.{then_leads, then_fails, staying, taking}
 use Rattle.expression_parser.proofs.SameTurns.{word_taken, word_missing, same_leads, same_fails}
 use Rattle.expression_parser.proofs.WordTurns.{at_name}

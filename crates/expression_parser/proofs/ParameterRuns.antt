@@ -14,7 +14,8 @@ use Rattle.parse_steps.specs.Steps.{most, Leads}
 use Rattle.type_skip.proofs.WordTests.{has, lacks}
 use Rattle.expression_parser.specs.declared.fault.Fault.{Fault}
 use Rattle.expression_parser.specs.declared.parts.Bind.{Bind}
-use Rattle.expression_parser.specs.Reading.{Fails, FindsBind, FindsTyping, FindsWord, FindsParameters}
+use Rattle.expression_parser.specs.Reading.{Fails, FindsBind, FindsWord}
+use Rattle.expression_parser.specs.Inner.{FindsTyping, FindsParameters}
 use Rattle.expression_parser.proofs.Leading.{then_leads, then_fails, taking}
 use Rattle.expression_parser.proofs.SameTurns.{word_taken, word_missing, same_leads, same_fails}
 

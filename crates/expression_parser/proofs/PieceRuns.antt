@@ -12,7 +12,8 @@ use Rattle.parse_steps.specs.Items.{Item, depth, expression}
 use Rattle.parse_steps.specs.Turns.{turn, stops, takes, name_turn}
 use Rattle.parse_steps.specs.Steps.{most, Leads, here}
 use Rattle.expression_parser.specs.declared.fault.Fault.TheVariants as fault
-use Rattle.expression_parser.specs.Reading.{Fails, FindsPieces}
+use Rattle.expression_parser.specs.Reading.{Fails}
+use Rattle.expression_parser.specs.Inner.{FindsPieces}
 use Rattle.expression_parser.proofs.ClassesToTokens.{has_middle, has_end}
 use Rattle.expression_parser.proofs.Leading.{then_leads, taking, stuck_here, nest_to}
 

@@ -17,7 +17,8 @@ use Rattle.expression_parser.specs.declared.fault.Fault.{Fault}
 use Rattle.expression_parser.specs.declared.parts.Ending.TheVariants as endings
 use Rattle.expression_parser.specs.declared.parts.Part.{Part}
 use Rattle.expression_parser.specs.declared.parts.Prefix.{Prefix}
-use Rattle.expression_parser.specs.Reading.{IsNamed, ending_of, FindsSimple, FindsSuffixes, FindsParenthesis}
+use Rattle.expression_parser.specs.Reading.{IsNamed, ending_of, FindsSuffixes, FindsParenthesis}
+use Rattle.expression_parser.specs.Inner.{FindsSimple}
 use Rattle.expression_parser.proofs.ClassesToTokens.{begins_name, begins_paren}
 use Rattle.expression_parser.proofs.Leading.{then_leads, then_fails, staying, taking}
 use Rattle.expression_parser.proofs.SimpleTurns.{begins_so, opens_node}

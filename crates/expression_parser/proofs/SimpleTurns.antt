@@ -23,7 +23,8 @@ use Rattle.expression_parser.specs.declared.fault.Fault.TheVariants as fault
 use Rattle.expression_parser.specs.declared.parts.Choices.{Choices}
 use Rattle.expression_parser.specs.declared.parts.Function.{Function}
 use Rattle.expression_parser.specs.declared.parts.Pieces.{Pieces}
-use Rattle.expression_parser.specs.Reading.{Fails, IsLeaf, FindsSimple, FindsPieces, FindsBody, FindsChoices}
+use Rattle.expression_parser.specs.Reading.{Fails, FindsBody}
+use Rattle.expression_parser.specs.Inner.{IsLeaf, FindsSimple, FindsPieces, FindsChoices}
 use Rattle.expression_parser.proofs.ClassesToTokens.{begins_pieces, begins_function}
 use Rattle.expression_parser.proofs.Leading.{then_leads, then_fails, staying, taking, stuck_here, deep_here, nest_to}
 

@@ -12,7 +12,8 @@ use Rattle.parse_steps.specs.Items.{Item, PrefixUse, depth}
 use Rattle.parse_steps.specs.Steps.{most, Leads, here}
 use Rattle.expression_parser.specs.declared.fault.Fault.{Fault}
 use Rattle.expression_parser.specs.declared.parts.Prefix.{Prefix}
-use Rattle.expression_parser.specs.Reading.{ending_of, IsOneSuffix, FindsSuffix, FindsSuffixes}
+use Rattle.expression_parser.specs.Reading.{ending_of, FindsSuffixes}
+use Rattle.expression_parser.specs.Inner.{IsOneSuffix, FindsSuffix}
 use Rattle.expression_parser.proofs.Leading.{then_leads, then_fails}
 use Rattle.expression_parser.proofs.SuffixTurns.{opens_none}
 

@@ -16,7 +16,8 @@ use Rattle.expression_parser.specs.declared.fault.Fault.{Fault}
 use Rattle.expression_parser.specs.declared.fault.Fault.TheVariants as fault
 use Rattle.expression_parser.specs.declared.parts.Fields.{Fields}
 use Rattle.expression_parser.specs.declared.parts.Part.{Part}
-use Rattle.expression_parser.specs.Reading.{Fails, FindsFields, FindsTable, FindsSimple}
+use Rattle.expression_parser.specs.Reading.{Fails, FindsTable}
+use Rattle.expression_parser.specs.Inner.{FindsFields, FindsSimple}
 use Rattle.expression_parser.proofs.Leading.{then_leads, then_fails, staying, nest_to}
 use Rattle.expression_parser.proofs.SimpleTurns.{begins_so, opens_node, no_room}
 

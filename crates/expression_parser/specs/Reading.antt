@@ -13,38 +13,30 @@ use Rattle.syntax_tree.specs.declared.tree.ExprKind.{ExprKind}
 use Rattle.syntax_tree.specs.declared.tree.Field.{Field}
 use Rattle.syntax_tree.specs.Nodes.{expr_at}
 use Rattle.syntax_tree.specs.Places.{kind_at, Has}
-use Rattle.syntax_tree.specs.Types.{IsType, IsGeneric, IsGenerics}
+use Rattle.syntax_tree.specs.Types.{IsType, IsGenerics}
 use Rattle.syntax_tree.specs.Words.{literal_of}
-use Rattle.syntax_tree.specs.Grammar.{PrefixEnd, in_target, in_call, in_paren, IsTyping, IsBind, IsBinds, IsParamList, IsExpr, IsList, IsLevel, IsOperations, IsConcat, IsUnary, IsPow, IsCast, IsSimple, IsPieces, IsChoices, IsSuffixes, IsArgs, IsTable, IsFields, IsField, IsBody, IsBlock}
+use Rattle.syntax_tree.specs.Grammar.{PrefixEnd, in_target, in_call, in_paren, IsBind, IsBinds, IsExpr, IsList, IsLevel, IsConcat, IsUnary, IsSuffixes, IsTable, IsBody, IsBlock}
 use Rattle.parse_steps.specs.declared.levels.Level.{Level}
 use Rattle.parse_steps.specs.declared.levels.Level.TheVariants as levels
-use Rattle.parse_steps.specs.declared.levels.Rank.{Rank}
 use Rattle.parse_steps.specs.declared.classes.Suffix.TheVariants as suffix_class
 use Rattle.type_skip.specs.declared.words.Word.{Word}
 use Rattle.type_skip.specs.declared.words.Word.TheVariants as words
-use Rattle.parse_steps.specs.declared.classes.Beginning.TheVariants as begins
-use Rattle.parse_steps.specs.Classes.{suffix, beginning}
+use Rattle.parse_steps.specs.Classes.{suffix}
 use Rattle.type_skip.specs.Words.{token_of}
 use Rattle.parse_steps.specs.Items as item
-use Rattle.parse_steps.specs.Items.{Item, PrefixUse, depth, climb}
+use Rattle.parse_steps.specs.Items.{Item, PrefixUse, depth}
 use Rattle.parse_steps.specs.Levels.{rank_of}
 use Rattle.parse_steps.specs.Steps.{most, Leads, Reaches, IsStuck, IsDeep, IsLate}
 use Rattle.expression_parser.specs.declared.fault.Fault.{Fault}
 use Rattle.expression_parser.specs.declared.fault.Fault.TheVariants as fault
 use Rattle.expression_parser.specs.declared.parts.Part.{Part}
 use Rattle.expression_parser.specs.declared.parts.Parts.{Parts}
-use Rattle.expression_parser.specs.declared.parts.Pieces.{Pieces}
-use Rattle.expression_parser.specs.declared.parts.ArmPart.{ArmPart}
-use Rattle.expression_parser.specs.declared.parts.Choices.{Choices}
 use Rattle.expression_parser.specs.declared.parts.Prefix.{Prefix}
 use Rattle.expression_parser.specs.declared.parts.Ending.{Ending}
 use Rattle.expression_parser.specs.declared.parts.Ending.TheVariants as endings
-use Rattle.expression_parser.specs.declared.parts.Fields.{Fields}
-use Rattle.expression_parser.specs.declared.parts.FieldPart.{FieldPart}
 use Rattle.expression_parser.specs.declared.parts.Function.{Function}
 use Rattle.expression_parser.specs.declared.parts.Bind.{Bind}
 use Rattle.expression_parser.specs.declared.parts.Binds.{Binds}
-use Rattle.expression_parser.specs.declared.parts.Parameters.{Parameters}
 use Rattle.expression_parser.specs.declared.parts.Block.{Block}
 use Rattle.expression_parser.specs.declared.parts.Wanted.{Wanted}
 use Rattle.expression_parser.specs.declared.parts.Wanted.TheVariants as wanted
@@ -88,22 +80,6 @@ IsAtLevel ts levels.Unaries i e j = IsUnary ts most i e j
 abbrev pub FindsLevel : List Token → (room : ℕ) → Level → (i : ℕ) → Result Part Fault → Type 0
 FindsLevel ts room l i = Finds ts room i (from_item (item.level l)) (λ (p : Part). IsAtLevel ts l i p.expr p.end × Within room i p.nest p.end) (λ (p : Part). p.end) (λ (p : Part). to_greater p.nest)
 
--- a part that begins at place b and whose left part was read: it is given what goes on behind that
-abbrev pub GoesOn : List Token → (room : ℕ) → (first : Part) → (stack : List Item → List Item) → (Good : Part → Type 0) → Result Part Fault → Type 0
-GoesOn ts room first stack Good = Finds ts room first.end (λ v k. (first.nest, stack k)) (λ (p : Part). Good p × (p.nest ≤ room) × (first.end ≤ p.end)) (λ (p : Part). p.end) (λ (p : Part) v k. (p.nest, k))
-
--- operators of a rank behind a left part, which begins at place b
-abbrev pub FindsOperations : List Token → (room : ℕ) → Rank → (b : ℕ) → Part → Result Part Fault → Type 0
-FindsOperations ts room r b left = GoesOn ts room left (λ k. item.operations r ∷ k) (λ (p : Part). IsOperations ts most (rank_of r) b left.end left.expr p.expr p.end)
-
--- what follows an operand that begins at place b, up to a level
-abbrev pub FindsClimb : List Token → (room : ℕ) → Level → (b : ℕ) → Part → Result Part Fault → Type 0
-FindsClimb ts room l b first = GoesOn ts room first (climb l) (λ (p : Part). IsAtLevel ts l b p.expr p.end)
-
--- a run of `..` behind its first part
-abbrev pub FindsRun : List Token → (room b : ℕ) → Part → Result Part Fault → Type 0
-FindsRun ts room b first = GoesOn ts room first (λ k. item.run ∷ k) (λ (p : Part). IsConcat ts most b p.expr p.end)
-
 -- an expression alone, by an item that begins with nothing read before
 abbrev pub FindsAlone : List Token → (room i : ℕ) → Item → (Good : Part → Type 0) → Result Part Fault → Type 0
 FindsAlone ts room i x Good = Finds ts room i (λ v k. (0, x ∷ k)) (λ (p : Part). Good p × Within room i p.nest p.end) (λ (p : Part). p.end) (λ (p : Part) v k. (p.nest, k))
@@ -111,48 +87,16 @@ FindsAlone ts room i x Good = Finds ts room i (λ v k. (0, x ∷ k)) (λ (p : Pa
 abbrev pub FindsUnary : List Token → (room i : ℕ) → Result Part Fault → Type 0
 FindsUnary ts room i = FindsAlone ts room i item.unary (λ (p : Part). IsUnary ts most i p.expr p.end)
 
-abbrev pub FindsSimple : List Token → (room i : ℕ) → Result Part Fault → Type 0
-FindsSimple ts room i = FindsAlone ts room i item.simple (λ (p : Part). IsSimple ts most i p.expr p.end)
-
--- a cast and a power behind a simple expression that begins at place b
-abbrev pub FindsCast : List Token → (room b : ℕ) → Part → Result Part Fault → Type 0
-FindsCast ts room b first = GoesOn ts room first (λ k. item.cast ∷ k) (λ (p : Part). IsCast ts most b p.expr p.end)
-
-abbrev pub FindsPower : List Token → (room b : ℕ) → Part → Result Part Fault → Type 0
-FindsPower ts room b first = GoesOn ts room first (λ k. item.power ∷ k) (λ (p : Part). IsPow ts most b p.expr p.end)
-
 -- expressions with commas between
 abbrev pub FindsList : List Token → (room i : ℕ) → Result Parts Fault → Type 0
 FindsList ts room i = Finds ts room i (λ v k. (v, item.expression ∷ item.list_more ∷ k)) (λ (p : Parts). IsList ts most i p.list p.end × Within room i p.nest p.end) (λ (p : Parts). p.end) (λ (p : Parts). to_greater p.nest)
 
--- the pieces of an interpolated string behind its first text, which stands before the others
-abbrev pub FindsPieces : List Token → (room i : ℕ) → StrId → Result Pieces Fault → Type 0
-FindsPieces ts room i x = Finds ts room i (λ v k. (v, item.expression ∷ item.pieces ∷ k)) (λ (p : Pieces). ((xs : List StrId) × (p.texts ≡ x ∷ xs) × IsPieces ts most i xs p.values p.end) × Within room i p.nest p.end) (λ (p : Pieces). p.end) (λ (p : Pieces). to_greater p.nest)
-
--- a node without parts, of this nest
-abbrev pub IsLeaf : List Token → (i nest : ℕ) → Type 0
-IsLeaf ts i nest = ((beginning (kind_at ts i) ≡ begins.Leaf) × (nest ≡ 0)) ⊎ ((beginning (kind_at ts i) ≡ begins.Whole) × (nest ≡ 1))
-
 abbrev pub IsLiteral : List Token → (i : ℕ) → Option ExprKind → Type 0
 IsLiteral ts i k = k ≡ literal_of (kind_at ts i)
-
--- what is behind the word `if` of an expression
-abbrev pub FindsChoices : List Token → (room i : ℕ) → Result Choices Fault → Type 0
-FindsChoices ts room i = Finds ts room i (λ v k. (v, item.expression ∷ item.expects words.Then ∷ item.expression ∷ item.choice_more ∷ k)) (λ (p : Choices). IsChoices ts most i p.arms p.other p.end × Within room i p.nest p.end) (λ (p : Choices). p.end) (λ (p : Choices). to_greater p.nest)
 
 -- an arm of one: a condition, the word `then` and a value
 abbrev pub expr_arm : (cond value : Expr) → ExprArm
 expr_arm cond value = roll-ExprArm (record { cond = cond; value = value })
-
-abbrev pub IsArm : List Token → (i : ℕ) → ArmPart → Type 0
-IsArm ts i a = (j : ℕ) × IsExpr ts most i a.cond j × Has ts j token.Then × IsExpr ts most (j + 1) a.value a.end
-
-abbrev pub FindsArm : List Token → (room i : ℕ) → Result ArmPart Fault → Type 0
-FindsArm ts room i = Finds ts room i (λ v k. (v, item.expression ∷ item.expects words.Then ∷ item.expression ∷ k)) (λ (a : ArmPart). IsArm ts i a × Within room i a.nest a.end) (λ (a : ArmPart). a.end) (λ (a : ArmPart). to_greater a.nest)
-
--- what it is otherwise, where no further arm stands
-abbrev pub FindsOther : List Token → (room i : ℕ) → Result Part Fault → Type 0
-FindsOther ts room i = Finds ts room i (from_item item.choice_more) (λ (p : Part). (Has ts i token.Else × IsExpr ts most (i + 1) p.expr p.end) × Within room i p.nest p.end) (λ (p : Part). p.end) (λ (p : Part). to_greater p.nest)
 
 -- ---- prefixes
 
@@ -172,23 +116,12 @@ IsParenthesis ts b p = (e : Expr) × (j : ℕ) × IsExpr ts most (b + 1) e j × 
 abbrev pub FindsParenthesis : List Token → (room b : ℕ) → Result Part Fault → Type 0
 FindsParenthesis ts room b = Finds ts room (b + 1) (λ v k. (0, item.expression ∷ item.expects words.CloseParen ∷ item.wrap ∷ k)) (λ (p : Part). IsParenthesis ts b p × Within room b p.nest p.end) (λ (p : Part). p.end) (λ (p : Part) v k. (p.nest, k))
 
--- one suffix behind a part of a prefix that begins at place b
-abbrev pub IsOneSuffix : List Token → (b : ℕ) → (first : Prefix) → Prefix → Type 0
-IsOneSuffix ts b first p = (e : Expr) (d : PrefixEnd) (j : ℕ) → IsSuffixes ts most b p.part.end p.part.expr (ending_of p.ending) e d j → IsSuffixes ts most b first.part.end first.part.expr (ending_of first.ending) e d j
-
-abbrev pub FindsSuffix : List Token → (room b : ℕ) → Prefix → Result Prefix Fault → Type 0
-FindsSuffix ts room b first r = (u : PrefixUse) → Finds ts room first.part.end (λ v k. (first.part.nest, item.suffixes (ending_of first.ending) u ∷ k)) (λ (p : Prefix). IsOneSuffix ts b first p × (p.part.nest ≤ room) × (first.part.end < p.part.end)) (λ (p : Prefix). p.part.end) (λ (p : Prefix) v k. (p.part.nest, item.suffixes (ending_of p.ending) u ∷ k)) r
-
 -- all suffixes behind a part of a prefix, up to a token that is none
 abbrev pub IsWholePrefix : List Token → (b : ℕ) → (first : Prefix) → Prefix → Type 0
 IsWholePrefix ts b first p = IsSuffixes ts most b first.part.end first.part.expr (ending_of first.ending) p.part.expr (ending_of p.ending) p.part.end × (suffix (kind_at ts p.part.end) ≡ suffix_class.Nothing)
 
 abbrev pub FindsSuffixes : List Token → (room b : ℕ) → Prefix → Result Prefix Fault → Type 0
 FindsSuffixes ts room b first r = (u : PrefixUse) → Finds ts room first.part.end (λ v k. (first.part.nest, item.suffixes (ending_of first.ending) u ∷ k)) (λ (p : Prefix). IsWholePrefix ts b first p × (p.part.nest ≤ room) × (first.part.end ≤ p.part.end)) (λ (p : Prefix). p.part.end) (λ (p : Prefix) v k. (p.part.nest, item.suffixes (ending_of p.ending) u ∷ k)) r
-
--- the arguments of a call whose callee or object nests so deep
-abbrev pub FindsArguments : List Token → (room left i : ℕ) → Result Parts Fault → Type 0
-FindsArguments ts room left i = Finds ts room i (λ v k. (left, item.arguments ∷ item.wrap ∷ k)) (λ (p : Parts). IsArgs ts most i p.list p.end × (p.nest < room) × (i < p.end)) (λ (p : Parts). p.end) (λ (p : Parts) v k. (max left p.nest, item.wrap ∷ k))
 
 -- a table at its `{`, by its node's turn
 abbrev pub IsTableAt : List Token → (i : ℕ) → Part → Type 0
@@ -198,17 +131,6 @@ abbrev pub FindsTable : List Token → (room i : ℕ) → Result Part Fault → 
 FindsTable ts room i (Ok p) = (IsTableAt ts i p × Within room i p.nest p.end) × (1 ≤ room) × ((k : List Item) → depth k + room ≡ most → Leads ts (i + 1) 0 (item.fields ∷ item.wrap ∷ k) p.end p.nest k)
 FindsTable ts room i (Err (fault.TooDeep p)) = ((room ≡ 0) × (p ≡ i)) ⊎ ((1 ≤ room) × ((k : List Item) → depth k + room ≡ most → Fails ts (i + 1) 0 (item.fields ∷ item.wrap ∷ k) (fault.TooDeep p)))
 FindsTable ts room i (Err f) = (1 ≤ room) × ((k : List Item) → depth k + room ≡ most → Fails ts (i + 1) 0 (item.fields ∷ item.wrap ∷ k) f)
-
--- the fields of a table, behind its `{` and up to its `}`
-abbrev pub IsClosedFields : List Token → (i : ℕ) → List Field → (end : ℕ) → Type 0
-IsClosedFields ts i fields end = (j : ℕ) × IsFields ts most i fields j × Has ts j token.CloseBrace × (end ≡ j + 1)
-
-abbrev pub FindsFields : List Token → (room i : ℕ) → Result Fields Fault → Type 0
-FindsFields ts room i = Finds ts room i (from_item item.fields) (λ (f : Fields). IsClosedFields ts i f.list f.end × Within room i f.nest f.end) (λ (f : Fields). f.end) (λ (f : Fields). to_greater f.nest)
-
--- one field, where no `}` stands
-abbrev pub FindsField : List Token → (room i : ℕ) → Result FieldPart Fault → Type 0
-FindsField ts room i = Finds ts room i (from_item item.fields) (λ (f : FieldPart). IsField ts most i f.field f.end × Within room i f.nest f.end) (λ (f : FieldPart). f.end) (λ (f : FieldPart) v k. (max v f.nest, item.field_end ∷ k))
 
 -- ---- functions
 
@@ -233,14 +155,6 @@ FindsType ts i = FindsShallow ts i (λ k. item.a_type ∷ k) (λ j. IsType ts mo
 abbrev pub FindsName : List Token → (i : ℕ) → Result StrId Fault → Type 0
 FindsName ts i = FindsShallow ts i (λ k. item.a_name ∷ k) (λ x. Has ts i (token.Name x)) (λ x. i + 1)
 
-abbrev pub FindsTyping : List Token → (i : ℕ) → Result ℕ Fault → Type 0
-FindsTyping ts i = FindsShallow ts i (λ k. item.typing ∷ k) (λ j. IsTyping ts most i j × (i ≤ j)) (λ j. j)
-
--- one parameter of types
-abbrev pub FindsGeneric : List Token → (i : ℕ) → Result ℕ Fault → Type 0
-FindsGeneric ts i (Ok j) = (IsGeneric ts most i j × (i < j)) × ((v : ℕ) (k : List Item) → Leads ts i v (item.generic ∷ k) j v (item.generic_more ∷ k))
-FindsGeneric ts i (Err f) = (v : ℕ) (k : List Item) → Fails ts i v (item.generic ∷ k) f
-
 abbrev pub FindsGenerics : List Token → (i : ℕ) → Result ℕ Fault → Type 0
 FindsGenerics ts i = FindsShallow ts i (λ k. item.generics ∷ k) (λ j. IsGenerics ts most i j × (i ≤ j)) (λ j. j)
 
@@ -250,13 +164,6 @@ FindsBind ts i = FindsShallow ts i (λ k. item.bind ∷ k) (λ (b : Bind). IsBin
 -- further names behind a first one, which begins at place i and ends at place j
 abbrev pub FindsBinds : List Token → (i j : ℕ) → Result Binds Fault → Type 0
 FindsBinds ts i j = FindsShallow ts j (λ k. item.bind_more ∷ k) (λ (b : Binds). IsBinds ts most i b.names b.end × (j ≤ b.end)) (λ (b : Binds). b.end)
-
--- parameters up to their `)`, behind those that were added
-abbrev pub IsParameters : List Token → (i : ℕ) → (added : List StrId) → Parameters → Type 0
-IsParameters ts i added p = (xs : List StrId) × (j : ℕ) × IsParamList ts most i xs p.vararg j × Has ts j token.CloseParen × (p.end ≡ j + 1) × (p.names ≡ added ++ xs)
-
-abbrev pub FindsParameters : List Token → (i : ℕ) → (added : List StrId) → Result Parameters Fault → Type 0
-FindsParameters ts i added = FindsShallow ts i (λ k. item.parameters ∷ k) (λ (p : Parameters). IsParameters ts i added p × (i < p.end)) (λ (p : Parameters). p.end)
 
 -- ---- statements
 

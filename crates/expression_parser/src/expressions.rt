@@ -6,7 +6,8 @@ ghost use Rattle.syntax_tree.specs.Operators.{sums};
 ghost use Rattle.syntax_tree.specs.Places.{Has};
 ghost use Rattle.syntax_tree.specs.declared.token.TokenKind.TheVariants.{DoubleDot};
 ghost use Rattle.parse_steps.specs.Steps.{most};
-ghost use Rattle.expression_parser.specs.Reading.{Nests, FindsLevel, FindsClimb, FindsRun, FindsUnary, FindsCast, FindsPower, FindsList};
+ghost use Rattle.expression_parser.specs.Reading.{Nests, FindsLevel, FindsUnary, FindsList};
+ghost use Rattle.expression_parser.specs.Inner.{FindsClimb, FindsRun, FindsCast, FindsPower};
 
 use crate::fault::Fault;
 use crate::grammar::{Grammar, within};

@@ -5,7 +5,8 @@ ghost use Rattle.syntax_tree.specs.Grammar.{IsBind};
 ghost use Rattle.syntax_tree.specs.Places.{Has};
 ghost use Rattle.syntax_tree.specs.declared.token.TokenKind.TheVariants.{Less};
 ghost use Rattle.parse_steps.specs.Steps.{most};
-ghost use Rattle.expression_parser.specs.Reading.{Nests, FindsBody, FindsTyping, FindsGenerics, FindsGeneric, FindsBind, FindsBinds, FindsParameters};
+ghost use Rattle.expression_parser.specs.Reading.{Nests, FindsBody, FindsGenerics, FindsBind, FindsBinds};
+ghost use Rattle.expression_parser.specs.Inner.{FindsTyping, FindsGeneric, FindsParameters};
 
 use crate::fault::Fault;
 use crate::grammar::Grammar;

@@ -1,7 +1,8 @@
 //! Binary operators.
 
 ghost use Rattle.std.specs.Prelude.{◌≡◌, ◌<◌, ◌≤◌, ◌^◌, length};
-ghost use Rattle.expression_parser.specs.Reading.{Nests, FindsOperations};
+ghost use Rattle.expression_parser.specs.Reading.{Nests};
+ghost use Rattle.expression_parser.specs.Inner.{FindsOperations};
 
 use crate::fault::Fault;
 use crate::grammar::{Grammar, within};

@@ -5,7 +5,8 @@ ghost use Rattle.syntax_tree.specs.Places.{kind_at, Has};
 ghost use Rattle.syntax_tree.specs.declared.token.TokenKind.TheVariants.{Dot, OpenBracket, Colon, OpenParen};
 ghost use Rattle.parse_steps.specs.Classes.{suffix};
 ghost use Rattle.parse_steps.specs.Steps.{InTime, IsLatePlace};
-ghost use Rattle.expression_parser.specs.Reading.{Nests, FindsSuffix, FindsSuffixes, FindsArguments};
+ghost use Rattle.expression_parser.specs.Reading.{Nests, FindsSuffixes};
+ghost use Rattle.expression_parser.specs.Inner.{FindsSuffix, FindsArguments};
 
 use crate::fault::Fault;
 use crate::grammar::{Grammar, within};

@@ -6,8 +6,9 @@ ghost use Rattle.syntax_tree.specs.Words.{literal_of};
 ghost use Rattle.syntax_tree.specs.declared.token.TokenKind.TheVariants.{OpenBrace, OpenParen, If, ElseIf};
 ghost use Rattle.syntax_tree.specs.declared.tree.ExprKind.{Interp};
 ghost use Rattle.parse_steps.specs.Classes.{beginning};
-ghost use Rattle.expression_parser.specs.Reading.{Nests, FindsSimple, FindsPieces, FindsTable, FindsParenthesis, IsLiteral, IsLeaf};
-ghost use Rattle.expression_parser.specs.Reading.{FindsChoices, FindsArm, FindsOther};
+ghost use Rattle.expression_parser.specs.Reading.{Nests, FindsTable, FindsParenthesis, IsLiteral};
+ghost use Rattle.expression_parser.specs.Inner.{FindsSimple, FindsPieces, IsLeaf};
+ghost use Rattle.expression_parser.specs.Inner.{FindsChoices, FindsArm, FindsOther};
 
 use crate::fault::Fault;
 use crate::grammar::{Grammar, within};

@@ -4,7 +4,8 @@ ghost use Rattle.std.specs.Prelude.{◌≡◌, ◌+◌, ◌<◌, ◌-◌, ◌^�
 ghost use Rattle.syntax_tree.specs.Words.{opens_named};
 ghost use Rattle.syntax_tree.specs.Places.{Lacks, Has};
 ghost use Rattle.syntax_tree.specs.declared.token.TokenKind.TheVariants.{CloseBrace, OpenBracket, Equal, Name};
-ghost use Rattle.expression_parser.specs.Reading.{Nests, FindsField, FindsFields};
+ghost use Rattle.expression_parser.specs.Reading.{Nests};
+ghost use Rattle.expression_parser.specs.Inner.{FindsField, FindsFields};
 
 use crate::fault::Fault;
 use crate::grammar::Grammar;

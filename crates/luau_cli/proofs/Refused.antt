@@ -1,47 +1,26 @@
 -- A script all of which is built is not refused.
-use Rattle.std.proofs.Common.{◌≡◌, ◌∙◌, ℕ, List, [], Some, refl, sym, ap, subst, arith}
+use Rattle.std.proofs.Common.{◌≡◌, ◌∙◌, ℕ, List, [], sym, ap, subst, arith}
 use Rattle.std.specs.Prelude.{Contains}
 use Rattle.std.proofs.lemmas.Option.{none-some}
 use Rattle.syntax_tree.specs.declared.fault.ScopeFault.{ScopeFault}
-use Rattle.syntax_tree.specs.declared.fault.Cause.{Cause}
-use Rattle.syntax_tree.specs.declared.fault.Cause.TheVariants as cause
 use Rattle.syntax_tree.specs.declared.fault.Refusal.{Refusal}
 use Rattle.syntax_tree.specs.declared.token.Token.{Token}
 use Rattle.syntax_tree.specs.declared.tree.Tree.{Tree}
 use Rattle.syntax_tree.specs.Accepts.{Accepts, Refuses, no_tokens, no_tree, breaks_rule}
 use Rattle.syntax_tree.specs.Bound.{bound, faults}
-use Rattle.syntax_tree.specs.Derivations.{main_function, Derives}
-use Rattle.syntax_tree.specs.Numbers.{numbered}
 use Rattle.syntax_tree.specs.Tokens.{HasTokens}
 use Rattle.luau_lexer.proofs.OneTokenList.{one_list, tokens_or_fault}
-use Rattle.syntax_tree.specs.Parsed.{IsShallow, IsParsed, IsRefusedFor, HasRefusal}
-use Rattle.luau_parser.proofs.Refusing.{without_tree}
-use Rattle.luau_parser.proofs.OneTree.{same_block}
+use Rattle.syntax_tree.specs.Parsed.{IsParsed, HasRefusal}
+use Rattle.luau_parser.proofs.Answering.{same_tree as once, parsed_or_refused}
 use Rattle.emit_stat.specs.Unbuilt.{first_unbuilt}
 use Rattle.luau_cli.specs.declared.refusal.ScriptErr.{ScriptErr}
 use Rattle.luau_cli.specs.declared.refusal.ScriptErr.TheVariants as error
 use Rattle.luau_cli.specs.Refusals.{statements, IsScript, IsRefused}
 
-derives : (ts : List Token) (tree : Tree) → IsShallow ts tree → Derives ts tree
-derives ts tree s = record { brackets = _; block = s.block; derived = s.derived; numbers = s.numbers }
-
--- tokens have one tree
-one_tree : (ts : List Token) (a b : Tree) → IsParsed ts a → IsParsed ts b → a ≡ b
-one_tree ts a b p q =
-    let same = same_block p.0.derived.derived q.0.derived.derived refl in
-    p.0.numbers ∙ ap (λ block. numbered (main_function block)) same.1 ∙ sym q.0.numbers
-
--- tokens with a tree are not refused
-parsed_or_refused : (ts : List Token) (tree : Tree) (c : Cause) (at : ℕ) → IsParsed ts tree → IsRefusedFor ts c at → ⊥
-parsed_or_refused ts tree cause.Unexpected at p r = without_tree ts at r tree (derives ts tree p.0)
-parsed_or_refused ts tree cause.TooDeep at p r = r.none ts tree refl p.0
-parsed_or_refused ts tree cause.AmbiguousCall at p r = p.1 r.place r.call
-parsed_or_refused ts tree _ at p r = r
-
--- and so has a text
+-- a text has one tree
 same_tree : (bytes : List ℕ) (ts us : List Token) (a b : Tree) → HasTokens bytes ts → HasTokens bytes us → IsParsed ts a → IsParsed us b → a ≡ b
 same_tree bytes ts us a b h k p q =
-    one_tree us a b (subst (λ vs. IsParsed vs a) (one_list bytes ts us h k) p) q
+    once (subst (λ vs. IsParsed vs a) (one_list bytes ts us h k) p).0 q.0
 
 -- where no rule is broken, there is no fault
 no_fault : (all : List ScopeFault) (fault : ScopeFault) → all ≡ [] → Contains all fault → ⊥

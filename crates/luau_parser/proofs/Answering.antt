@@ -2,6 +2,8 @@
 use Rattle.std.proofs.Common.{◌≡◌, ◌≤◌, ◌<◌, ◌+◌, ℕ, List, Option, Some, Result, Ok, Err, IfOk, IfErr, ◌⊎◌, inl, inr, refl, sym, ap, ◌∙◌, arith}
 use Rattle.std.specs.Prelude.{slice_get}
 use Rattle.std.proofs.lemmas.Bool.{cases_lt}
+use Rattle.syntax_tree.specs.declared.fault.Cause.{Cause}
+use Rattle.syntax_tree.specs.declared.fault.Cause.TheVariants as cause
 use Rattle.syntax_tree.specs.declared.token.Token.{Token}
 use Rattle.syntax_tree.specs.declared.tree.Tree.{Tree}
 use Rattle.syntax_tree.specs.Calls.{Ambiguous}
@@ -11,7 +13,7 @@ use Rattle.syntax_tree.specs.Proper.{IsProper}
 use Rattle.parse_steps.specs.Steps.{most}
 use Rattle.luau_parser.specs.declared.error.ParseErr.{ParseErr}
 use Rattle.luau_parser.specs.declared.error.ParseErr.TheVariants as refusal
-use Rattle.syntax_tree.specs.Parsed.{IsShallow, IsParsed}
+use Rattle.syntax_tree.specs.Parsed.{IsShallow, IsParsed, IsRefusedFor}
 use Rattle.luau_parser.specs.Refusals.{IsRefusal, Answers}
 use Rattle.luau_parser.proofs.OneTree.{same_block}
 use Rattle.luau_parser.proofs.ProperTrees.{trees_are_proper}
@@ -24,10 +26,18 @@ pub proper_answer : (ts : List Token) (r : Result Tree ParseErr) → IfOk r (IsP
 proper_answer ts (Ok tree) good = trees_are_proper ts tree (shallow_derives good.0)
 proper_answer ts (Err e) good = tt
 
-same_tree : {ts : List Token} {tree other : Tree} → IsShallow ts tree → IsShallow ts other → tree ≡ other
+-- tokens have one tree
+pub same_tree : {ts : List Token} {tree other : Tree} → IsShallow ts tree → IsShallow ts other → tree ≡ other
 same_tree a b =
     let r = same_block a.derived.derived b.derived.derived refl in
     a.numbers ∙ ap (λ x. numbered (main_function x)) r.1 ∙ sym b.numbers
+
+-- tokens with a tree are not refused
+pub parsed_or_refused : (ts : List Token) (tree : Tree) (c : Cause) (at : ℕ) → IsParsed ts tree → IsRefusedFor ts c at → ⊥
+parsed_or_refused ts tree cause.Unexpected at p r = without_tree ts at r tree (shallow_derives p.0)
+parsed_or_refused ts tree cause.TooDeep at p r = r.none ts tree refl p.0
+parsed_or_refused ts tree cause.AmbiguousCall at p r = p.1 r.place r.call
+parsed_or_refused ts tree _ at p r = r
 
 pub finds_tree : (ts : List Token) (tree : Tree) → IsParsed ts tree → (r : Result Tree ParseErr) → IfOk r (IsParsed ts) → IfErr r (IsRefusal ts) → Answers (Ok tree) r
 finds_tree ts tree p (Ok other) good bad = inl (ap Ok (same_tree good.0 p.0))

@@ -1,4 +1,4 @@
--- What the methods that read statements find.
+-- Of the crate's own functions: what the methods that read statements find.
 use Rattle.std.specs.Prelude.{◌≡◌, ◌≢◌, ℕ, ◌+◌, ◌<◌, ◌≤◌, max, Bool, ◌&&◌, ◌||◌, nat_eq, IsTrue, IsFalse, List, [], ◌∷◌, Option, Some, None, Result, Ok, Err, ◌⊎◌}
 use Rattle.byte_text.specs.declared.StrId.{StrId}
 use Rattle.syntax_tree.specs.declared.token.Token.{Token}

@@ -5,7 +5,7 @@ use Rattle.syntax_tree.specs.declared.tree.Stat.{Stat}
 use Rattle.syntax_tree.specs.Calls.{call_places}
 use Rattle.syntax_tree.specs.Derivations.{IsChunk, main_function}
 use Rattle.syntax_tree.specs.Places.{kind_at}
-use Rattle.parse_steps.specs.CallPlaces.{calls_stats}
+use Rattle.parse_steps.proofs.CallPlaces.{calls_stats}
 use Rattle.parse_steps.specs.Items.{Item}
 use Rattle.parse_steps.specs.Items as item
 use Rattle.parse_steps.proofs.Accepting.{Text, Accepts, over, Rest, Owes, in_part, further}

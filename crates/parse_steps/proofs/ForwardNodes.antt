@@ -21,9 +21,9 @@ use Rattle.syntax_tree.specs.Nest.{nest_expr, nest_stat, nest_func, nest_arm, ne
 use Rattle.syntax_tree.specs.Nodes.{expr_at, call_at, field_at, stat_at, function_at, arm, expr_arm}
 use Rattle.syntax_tree.specs.Words.{literal_of}
 use Rattle.parse_steps.specs.declared.classes.Beginning.TheVariants as begins
-use Rattle.parse_steps.specs.CallPlaces.{calls_expr, calls_stat, calls_field, calls_exprs, calls_stats, calls_arms, calls_expr_arms, calls_fields, calls_step, calls_other}
+use Rattle.parse_steps.proofs.CallPlaces.{calls_expr, calls_stat, calls_field, calls_exprs, calls_stats, calls_arms, calls_expr_arms, calls_fields, calls_step, calls_other}
 use Rattle.parse_steps.specs.Classes.{beginning}
-use Rattle.parse_steps.specs.OtherNest.{nest_other}
+use Rattle.parse_steps.proofs.OtherNest.{nest_other}
 use Rattle.parse_steps.proofs.NodeCalls as calls
 use Rattle.parse_steps.proofs.NodeNests as nests
 

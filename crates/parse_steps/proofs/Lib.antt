@@ -1,3 +1,5 @@
+pub mod CallPlaces
+pub mod OtherNest
 pub mod Together
 pub mod Limits
 pub mod Kept

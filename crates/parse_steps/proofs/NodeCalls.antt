@@ -22,7 +22,7 @@ use Rattle.syntax_tree.specs.Derivations.{main_function}
 use Rattle.syntax_tree.specs.Nodes.{expr_at, call_at, field_at, stat_at, function_at, arm, expr_arm}
 use Rattle.syntax_tree.specs.Words.{literal_of}
 use Rattle.syntax_tree.specs.Calls.{Places, call_places}
-use Rattle.parse_steps.specs.CallPlaces.{calls_expr, calls_stat, calls_func, calls_arm, calls_expr_arm, calls_field, calls_exprs, calls_stats, calls_arms, calls_expr_arms, calls_fields, calls_step, calls_other}
+use Rattle.parse_steps.proofs.CallPlaces.{calls_expr, calls_stat, calls_func, calls_arm, calls_expr_arm, calls_field, calls_exprs, calls_stats, calls_arms, calls_expr_arms, calls_fields, calls_step, calls_other}
 
 pub calls_name : (ts : List Token) (i : ℕ) (x : StrId) → calls_expr (expr_at ts i (expr.Name x)) ≡ []
 calls_name ts i x = search (rules, folds.the_lemmas, views.the_lemmas)

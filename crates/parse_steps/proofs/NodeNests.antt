@@ -29,7 +29,7 @@ use Rattle.syntax_tree.specs.declared.tree.StatKind.{StatKind, roll-StatKind}
 use Rattle.syntax_tree.specs.Nest.{steps, stat_kind_nest, nest_expr, nest_stat, nest_func, nest_arm, nest_expr_arm, nest_field, nest_step}
 use Rattle.parse_steps.specs.declared.classes.Beginning.TheVariants as begins
 use Rattle.parse_steps.specs.Classes.{beginning}
-use Rattle.parse_steps.specs.OtherNest.{nest_other}
+use Rattle.parse_steps.proofs.OtherNest.{nest_other}
 
 plus_one : (n : ℕ) → n + 1 ≡ suc n
 plus_one n = search (rules, arith)

@@ -13,7 +13,7 @@ use Rattle.syntax_tree.specs.Nodes.{expr_at, stat_at}
 use Rattle.syntax_tree.specs.Places.{kind_at, Has, Lacks, is_name, is_named, Optional, taken, absent}
 use Rattle.syntax_tree.specs.Words.{continue_name, type_name, export_name, ends_block, is_semicolon, ends_last, is_continue, opens_type}
 use Rattle.type_skip.specs.declared.words.Word.TheVariants as word
-use Rattle.parse_steps.specs.CallPlaces.{calls_stat, calls_stats}
+use Rattle.parse_steps.proofs.CallPlaces.{calls_stat, calls_stats}
 use Rattle.parse_steps.specs.Classes as classes
 use Rattle.parse_steps.specs.Items.{Item, first_target}
 use Rattle.parse_steps.specs.Items as item

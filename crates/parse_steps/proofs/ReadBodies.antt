@@ -9,7 +9,7 @@ use Rattle.syntax_tree.specs.Places.{kind_at, is_name, Optional, taken, absent}
 use Rattle.syntax_tree.specs.Types as types
 use Rattle.syntax_tree.specs.Types.{IsGenerics, IsGenericList, IsGeneric}
 use Rattle.type_skip.specs.declared.words.Word.TheVariants as word
-use Rattle.parse_steps.specs.CallPlaces.{calls_stats}
+use Rattle.parse_steps.proofs.CallPlaces.{calls_stats}
 use Rattle.parse_steps.specs.Items.{Item}
 use Rattle.parse_steps.specs.Items as item
 use Rattle.parse_steps.specs.Turns.{parameter_turn}

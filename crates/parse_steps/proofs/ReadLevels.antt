@@ -16,7 +16,7 @@ use Rattle.parse_steps.specs.declared.levels.Rank.TheVariants as rank
 use Rattle.parse_steps.specs.declared.levels.Level.{Level}
 use Rattle.parse_steps.specs.declared.levels.Level.TheVariants as levels
 use Rattle.type_skip.specs.declared.words.Word.TheVariants as word
-use Rattle.parse_steps.specs.CallPlaces.{calls_expr, calls_exprs}
+use Rattle.parse_steps.proofs.CallPlaces.{calls_expr, calls_exprs}
 use Rattle.parse_steps.specs.Items.{Item, climb}
 use Rattle.parse_steps.specs.Items as item
 use Rattle.parse_steps.specs.Levels.{rank_of, next}

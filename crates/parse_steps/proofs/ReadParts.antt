@@ -20,7 +20,7 @@ use Rattle.syntax_tree.specs.Words.{is_equal, opens_named}
 use Rattle.parse_steps.specs.declared.levels.Level.TheVariants as levels
 use Rattle.parse_steps.specs.declared.levels.Rank.TheVariants as rank
 use Rattle.type_skip.specs.declared.words.Word.TheVariants as word
-use Rattle.parse_steps.specs.CallPlaces.{calls_expr, calls_exprs, calls_expr_arms, calls_expr_arm, calls_field, calls_fields}
+use Rattle.parse_steps.proofs.CallPlaces.{calls_expr, calls_exprs, calls_expr_arms, calls_expr_arm, calls_field, calls_fields}
 use Rattle.parse_steps.specs.Classes as classes
 use Rattle.parse_steps.specs.Items.{Item, in_expression, climb}
 use Rattle.parse_steps.specs.Items as item

@@ -17,7 +17,7 @@ use Rattle.syntax_tree.specs.Words.{opens_suffix, literal_of}
 use Rattle.parse_steps.specs.declared.classes.Suffix.{Suffix}
 use Rattle.parse_steps.specs.declared.classes.Suffix.TheVariants as suffix
 use Rattle.type_skip.specs.declared.words.Word.TheVariants as word
-use Rattle.parse_steps.specs.CallPlaces.{calls_expr, calls_exprs, calls_fields}
+use Rattle.parse_steps.proofs.CallPlaces.{calls_expr, calls_exprs, calls_fields}
 use Rattle.parse_steps.specs.Classes as classes
 use Rattle.parse_steps.specs.Items.{Item, PrefixUse, in_expression}
 use Rattle.parse_steps.specs.Items as item

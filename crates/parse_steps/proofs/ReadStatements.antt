@@ -20,7 +20,7 @@ use Rattle.syntax_tree.specs.Places.{kind_at, Has, Lacks}
 use Rattle.syntax_tree.specs.Types.{is_open_paren}
 use Rattle.syntax_tree.specs.Words.{self_name}
 use Rattle.type_skip.specs.declared.words.Word.TheVariants as word
-use Rattle.parse_steps.specs.CallPlaces.{calls_expr, calls_exprs, calls_stat, calls_stats, calls_arm, calls_arms, calls_step, calls_other}
+use Rattle.parse_steps.proofs.CallPlaces.{calls_expr, calls_exprs, calls_stat, calls_stats, calls_arm, calls_arms, calls_step, calls_other}
 use Rattle.parse_steps.specs.Items.{Item, first_target, later_target}
 use Rattle.parse_steps.specs.Items as item
 use Rattle.parse_steps.specs.Turns.{prefix_turn}

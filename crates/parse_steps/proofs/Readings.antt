@@ -17,7 +17,7 @@ use Rattle.syntax_tree.specs.Types.{IsGenericList}
 use Rattle.parse_steps.specs.declared.levels.Rank.{Rank}
 use Rattle.parse_steps.specs.declared.levels.Level.{Level}
 use Rattle.parse_steps.specs.declared.levels.Level.TheVariants as levels
-use Rattle.parse_steps.specs.CallPlaces.{calls_expr, calls_arms, calls_exprs, calls_expr_arms, calls_fields, calls_stats, calls_other}
+use Rattle.parse_steps.proofs.CallPlaces.{calls_expr, calls_arms, calls_exprs, calls_expr_arms, calls_fields, calls_stats, calls_other}
 use Rattle.parse_steps.specs.Items.{Item, PrefixUse}
 use Rattle.parse_steps.specs.Items as item
 use Rattle.parse_steps.specs.Levels.{rank_of}

@@ -3,6 +3,4 @@ pub mod Classes
 pub mod Items
 pub mod Turns
 pub mod Steps
-pub mod CallPlaces
-pub mod OtherNest
 pub mod Laws

@@ -4,9 +4,9 @@ ghost use Rattle.std.specs.Prelude.{◌≡◌, ◌<◌, ◌^◌, length, OnSome}
 ghost use Rattle.syntax_tree.specs.Places.{kind_at};
 ghost use Rattle.parse_steps.specs.Classes.{name_of, middle_of, end_of, beginning, suffix, arguments, opening};
 
-use type_skip::kind_at;
 use byte_text::StrId;
 use syntax_tree::{Token, TokenKind};
+use type_skip::kind_at;
 
 /// What a token begins as the first of an expression without operators.
 #[derive(Clone, Copy)]

@@ -6,8 +6,8 @@ ghost use Rattle.syntax_tree.specs.Operators.{operator, unary_operator, compound
 ghost use Rattle.parse_steps.specs.Levels.{rank_of};
 
 use crate::levels::Rank;
-use type_skip::kind_at;
 use syntax_tree::{BinOp, Token, TokenKind, UnOp};
+use type_skip::kind_at;
 
 /// The binary operator of a level at a place, where one stands.
 pub fn operator_at(tokens: &[Token], at: usize, rank: Rank) -> Option<BinOp>

@@ -7,7 +7,8 @@ use Rattle.syntax_tree.specs.declared.token.TokenKind.TheVariants as token
 use Rattle.syntax_tree.specs.Places.{kind_at, Has, Lacks, is_name, is_named, Optional, taken, absent}
 use Rattle.syntax_tree.specs.Types.{typeof_name, is_open_paren, is_literal, opens_typeof, is_closer, IsType, IsMember, no_member, member, balanced, IsAtom, literal, variadic, named, type_of, table, function, IsArguments, no_arguments, arguments, no_result, IsItems, no_items, no_fields, IsGenerics, no_generics, generics, IsGenericList, last_generic, more_generics, IsGeneric, generic, IsDefault, no_default, default}
 use Rattle.type_skip.specs.Brackets.{opens_bracket}
-use Rattle.type_skip.specs.Reading.{SameBelow, ends_type, Writes, IsStuck, IsDeep, IsClosedItems, IsClosedFields, IsClosedGenerics, IsClosedBalanced, IsMemberAt, IsOpened, IsEntered, IsHead}
+use Rattle.type_skip.specs.Reading.{SameBelow, ends_type, Writes, IsStuck, IsDeep}
+use Rattle.type_skip.specs.Inner.{IsClosedItems, IsClosedFields, IsClosedGenerics, IsClosedBalanced, IsMemberAt, IsOpened, IsEntered, IsHead}
 use Rattle.type_skip.proofs.Forward.{optional_forward, member_forward, items_forward, generics_forward, generic_forward}
 use Rattle.type_skip.proofs.OneType.{misses, misses_back, atom_form, form, name_form, typeof_form, one_generics, one_generic, one_optional, one_member}
 use Rattle.type_skip.proofs.Moved.{move_optional, move_member, move_generics, move_generic}

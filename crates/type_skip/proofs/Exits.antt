@@ -5,7 +5,8 @@ use Rattle.syntax_tree.specs.declared.token.TokenKind.{TokenKind}
 use Rattle.syntax_tree.specs.Places.{Has, Lacks}
 use Rattle.type_skip.specs.declared.fault.Fault.{Fault}
 use Rattle.type_skip.specs.declared.fault.Fault.TheVariants.{Unexpected}
-use Rattle.type_skip.specs.Reading.{IsStuck, Fails, Reads, ReadsAs}
+use Rattle.type_skip.specs.Reading.{IsStuck, Fails, Reads}
+use Rattle.type_skip.specs.Inner.{ReadsAs}
 use Rattle.type_skip.proofs.Leading.{Exactly, LeadsIn, exactly_fails, leads_in_fails, same_self}
 
 -- a part is read as another is

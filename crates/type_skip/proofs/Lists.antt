@@ -7,7 +7,8 @@ use Rattle.syntax_tree.specs.declared.token.TokenKind.TheVariants as token
 use Rattle.syntax_tree.specs.Places.{kind_at, Has, Lacks, is_name, absent}
 use Rattle.syntax_tree.specs.Types.{is_open_paren, is_colon, is_bar, is_separator, is_literal, is_label, IsType, plain_type, last_part, part, no_mark, no_member, literal, named, no_arguments, IsItems, no_items, items, IsItemList, last_item, more_items, IsItem, plain_item, labelled_item, IsFields, no_fields, last_field, more_fields, IsField, keyed_field, item_field}
 use Rattle.type_skip.specs.Brackets.{opens_bracket}
-use Rattle.type_skip.specs.Reading.{SameBelow, ends_type, Writes, IsStuck, IsDeep, Fails, IsClosedItems, IsClosedItemList, IsClosedFields}
+use Rattle.type_skip.specs.Reading.{SameBelow, ends_type, Writes, IsStuck, IsDeep, Fails}
+use Rattle.type_skip.specs.Inner.{IsClosedItems, IsClosedItemList, IsClosedFields}
 use Rattle.type_skip.proofs.Forward.{type_forward, item_forward, field_forward}
 use Rattle.type_skip.proofs.OneType.{clash, clash_back, misses, misses_back, one_type, one_item, one_field}
 use Rattle.type_skip.proofs.Moved.{bar_ends, move_type, move_item, move_field}

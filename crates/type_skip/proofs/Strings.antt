@@ -16,7 +16,8 @@ use Rattle.type_skip.specs.declared.words.Word.TheVariants as word
 use Rattle.type_skip.specs.Brackets.{opens_bracket}
 use Rattle.type_skip.specs.Balance.{class_of, turn_of}
 use Rattle.type_skip.specs.Words.{is_word, token_of}
-use Rattle.type_skip.specs.Reading.{SameBelow, ends_type, Writes, IsStuck, IsDeep, IsClosedBalanced, IsClosedStrings}
+use Rattle.type_skip.specs.Reading.{SameBelow, ends_type, Writes, IsStuck, IsDeep}
+use Rattle.type_skip.specs.Inner.{IsClosedBalanced, IsClosedStrings}
 use Rattle.type_skip.proofs.Forward.{balanced_forward}
 use Rattle.type_skip.proofs.OneType.{balanced_form, form_b, form_b_is, same_balanced}
 use Rattle.type_skip.proofs.Moved.{move_balanced}

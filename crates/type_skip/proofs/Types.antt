@@ -5,7 +5,8 @@ use Rattle.syntax_tree.specs.declared.token.TokenKind.{TokenKind}
 use Rattle.syntax_tree.specs.declared.token.TokenKind.TheVariants as token
 use Rattle.syntax_tree.specs.Places.{kind_at, Has, Lacks, is_name, is_named}
 use Rattle.syntax_tree.specs.Types.{typeof_name, is_open_paren, is_bar, is_literal, opens_typeof, IsType, plain_type, barred_type, IsParts, last_part, more_parts, IsPart, part, IsMarks, no_mark, mark, IsAtom, literal, variadic, named, type_of, table, function, IsResult, no_result, result, IsItems, IsGenerics, no_generics, generics}
-use Rattle.type_skip.specs.Reading.{SameBelow, ends_type, IsHead, IsBehindBar}
+use Rattle.type_skip.specs.Reading.{SameBelow, ends_type}
+use Rattle.type_skip.specs.Inner.{IsHead, IsBehindBar}
 use Rattle.type_skip.proofs.Forward.{marks_forward, atom_forward, items_forward, generics_forward}
 use Rattle.type_skip.proofs.OneType.{clash_back, atom_form, form, form_is, generics_form, one_part, one_generics, one_items}
 use Rattle.type_skip.proofs.Moved.{Near, bar_ends, move_atom, move_marks, move_generics, move_items}

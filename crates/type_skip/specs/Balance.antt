@@ -1,4 +1,4 @@
--- How balanced tokens go on, token by token.
+-- Of the crate's own functions: how balanced tokens go on, token by token.
 use Rattle.std.specs.Prelude.{ℕ, zero, suc, Option, Some, None, if◌then◌else◌}
 use Rattle.syntax_tree.specs.declared.token.TokenKind.{TokenKind}
 use Rattle.syntax_tree.specs.declared.token.TokenKind.TheVariants as token

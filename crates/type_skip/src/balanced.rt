@@ -3,7 +3,8 @@
 ghost use Rattle.std.specs.Prelude.{◌≡◌, ◌+◌, ◌<◌, ◌^◌, length, Some, IsTrue};
 ghost use Rattle.syntax_tree.specs.Places.{kind_at};
 ghost use Rattle.syntax_tree.specs.Types.{is_closer};
-ghost use Rattle.type_skip.specs.Reading.{Reads, IsClosedBalanced};
+ghost use Rattle.type_skip.specs.Reading.{Reads};
+ghost use Rattle.type_skip.specs.Inner.{IsClosedBalanced};
 ghost use Rattle.type_skip.specs.Balance.{class_of, turn_of};
 ghost use Rattle.type_skip.specs.Words.{token_of, is_word};
 

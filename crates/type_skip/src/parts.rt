@@ -6,7 +6,8 @@ ghost use Rattle.std.specs.Prelude.{◌≡◌, ℕ, ◌+◌, ◌<◌, ◌^◌, �
 ghost use Rattle.syntax_tree.specs.Places.{kind_at, Has, Lacks, is_name};
 ghost use Rattle.syntax_tree.specs.Types.{IsType, IsAtom, IsArguments, IsItem, IsField, IsGeneric, IsDefault, opens_typeof};
 ghost use Rattle.syntax_tree.specs.declared.token.TokenKind.TheVariants.{OpenBrace, Less, OpenParen};
-ghost use Rattle.type_skip.specs.Reading.{ends_type, Reads, ReadsAs, IsStep, IsHead, IsOpened, IsEntered, IsMemberAt, IsBehindBar, IsClosedItems, IsClosedItemList, IsClosedFields, IsClosedGenerics};
+ghost use Rattle.type_skip.specs.Reading.{ends_type, Reads};
+ghost use Rattle.type_skip.specs.Inner.{ReadsAs, IsStep, IsHead, IsOpened, IsEntered, IsMemberAt, IsBehindBar, IsClosedItems, IsClosedItemList, IsClosedFields, IsClosedGenerics};
 ghost use Rattle.type_skip.specs.Words.{token_of};
 
 use crate::balanced::balanced_end;

@@ -4,7 +4,8 @@ use Rattle.syntax_tree.specs.Places.{kind_at}
 use Rattle.type_skip.specs.declared.balanced.Turn.TheVariants.{Pass, Nest, Done, Stuck}
 use Rattle.type_skip.specs.declared.fault.Fault.TheVariants.{Unexpected, TooDeep}
 use Rattle.type_skip.specs.Balance.{class_of, turn_of}
-use Rattle.type_skip.specs.Reading.{Fails, IsClosedStrings}
+use Rattle.type_skip.specs.Reading.{Fails}
+use Rattle.type_skip.specs.Inner.{IsClosedStrings}
 use Rattle.type_skip.specs.Words.{token_of}
 use Rattle.type_skip.proofs.Forward.{balanced_forward}
 use Rattle.type_skip.proofs.Leading.{leads_in_fails, exactly_fails, exactly_then, Exactly, same_self}

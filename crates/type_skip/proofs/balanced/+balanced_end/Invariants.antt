@@ -1,5 +1,5 @@
 use Rattle.std.proofs.Common.{◌≤◌, ◌+◌, ◌-◌, ◌^◌, length}
-use Rattle.type_skip.specs.Reading.{IsClosedBalanced, IsClosedStrings}
+use Rattle.type_skip.specs.Inner.{IsClosedBalanced, IsClosedStrings}
 use Rattle.type_skip.specs.Words.{token_of}
 use Rattle.type_skip.proofs.Leading.{Exactly}
 use Rattle.type_skip.proofs.balanced.+balanced_end.Given as goal

@@ -6,7 +6,8 @@ use Rattle.syntax_tree.specs.Types.{IsType, IsParts, last_part, part, IsAtom, li
 use Rattle.type_skip.specs.declared.fault.Fault.TheVariants.{Unexpected}
 use Rattle.type_skip.specs.declared.parts.Step.{Step}
 use Rattle.type_skip.specs.declared.parts.Step.TheVariants as step
-use Rattle.type_skip.specs.Reading.{Fails, IsStep, IsEntered}
+use Rattle.type_skip.specs.Reading.{Fails}
+use Rattle.type_skip.specs.Inner.{IsStep, IsEntered}
 use Rattle.type_skip.specs.Words.{token_of}
 use Rattle.type_skip.proofs.Forward.{atom_forward, marks_forward, item_forward, field_forward, generic_forward}
 use Rattle.type_skip.proofs.Leading.{Exactly, leads_fails, exactly_fails, exactly_then, same_self}

@@ -1,6 +1,6 @@
 use Rattle.std.proofs.Common.{◌+◌, ◌*◌, ◌-◌, ◌^◌}
 use Rattle.syntax_tree.specs.Types.{IsType, IsParts}
-use Rattle.type_skip.specs.Reading.{IsClosedItemList, IsClosedFields, IsClosedGenerics}
+use Rattle.type_skip.specs.Inner.{IsClosedItemList, IsClosedFields, IsClosedGenerics}
 use Rattle.type_skip.specs.Words.{token_of}
 use Rattle.type_skip.proofs.Leading.{Exactly}
 use Rattle.type_skip.proofs.parts.+parts.Given as goal
