@@ -10,6 +10,7 @@ pub mod LabelRanges
 pub mod EmittedValues
 pub mod EmittedStatements
 pub mod EmittedBlocks
+pub mod EmittedStands
 pub mod EmittedScripts
 pub mod NodeLevels
 pub mod Built

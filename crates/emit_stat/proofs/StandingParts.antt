@@ -1,13 +1,14 @@
 -- What stands in a part, and behind it.
-use Rattle.std.proofs.Common.{◌≡◌, ◌∙◌, ℕ, ◌+◌, ◌≤◌, ◌==◌, Bool, true, false, List, [], ◌∷◌, ◌++◌, map, length, reverse, Option, Some, None, IsSome, refl, sym, ap, ap₂, subst, rules, arith, append-nil, append_assoc, if◌then◌else◌}
+use Rattle.std.proofs.Common.{◌≡◌, ◌∙◌, ℕ, ◌+◌, ◌≤◌, ◌<◌, ◌==◌, Bool, true, false, List, [], ◌∷◌, ◌++◌, map, length, reverse, Option, Some, None, IsSome, refl, sym, ap, ap₂, subst, rules, arith, append-nil, append_assoc, if◌then◌else◌}
 use Rattle.std.specs.Prelude.{nat_lt}
-use Rattle.std.proofs.lemmas.Bool.{le-ltb}
+use Rattle.std.proofs.lemmas.Bool.{le-ltb, eq-eqb, ne_eqb}
 use Rattle.std.proofs.lemmas.List.{reverse-append, reverse-reverse, map-append}
 use Rattle.byte_text.specs.declared.fixed.StrId.{StrId}
 use Rattle.syntax_tree.specs.declared.bindings.Bindings.{Bindings}
 use Rattle.syntax_tree.specs.declared.bindings.Bound.TheVariants as variant
 use Rattle.syntax_tree.specs.declared.notes.Visible.{Visible}
 use Rattle.syntax_tree.specs.declared.tree.Arm.{Arm, out-Arm}
+use Rattle.syntax_tree.specs.declared.tree.BinOp.{BinOp}
 use Rattle.syntax_tree.specs.declared.tree.Expr.{Expr}
 use Rattle.syntax_tree.specs.declared.tree.ExprKind.{out-ExprKind}
 use Rattle.syntax_tree.specs.declared.tree.ExprKind as expr_kind
@@ -24,7 +25,10 @@ use Rattle.scope_laws.specs.Sight.{Sight, Part, ExprLevel, StatLevel, expr, stat
 use Rattle.scope_laws.proofs.Levels.{at_stat_level, stat_is, stat_kind_is}
 use Rattle.scope_laws.proofs.Seen.{names_in_scope, nodes_have_firsts}
 use Rattle.emit_stat.specs.Form.{register_of, names_after, names_beyond}
-use Rattle.emit_stat.specs.Standing.{entry, bound_at, first_at, names_of, scope_after, AreBelow, Stand}
+use Rattle.emit_stat.specs.Standing.{entry, bound_at, first_at, names_of, scope_after, AreBelow, Stand, StandsAt, register_at, register_bound}
+
+same_some : {n m : ℕ} → Some n ≡ Some m → n ≡ m
+same_some h = search rules
 
 no_none : {n : ℕ} → Some n ≡ None → ⊥
 no_none h = search rules
@@ -37,6 +41,10 @@ not_local h = search rules
 
 not_global : {k : ℕ} → Some (variant.Local k) ≡ Some variant.Global → ⊥
 not_global h = search rules
+
+pub names_length : (vs : List Visible) → length (names_of vs) ≡ length vs
+names_length [] = refl
+names_length (v ∷ vs) = omega (arith, names_length vs)
 
 -- ---- numbers of locals
 
@@ -310,9 +318,9 @@ look_register x (v ∷ vs) =
     (found_by (v.name.0 == x.0) v.local (length (names_of vs)) (look x (reverse vs)) (register_of (names_of vs) x) (look_register x vs))
 
 -- what a name's binding says of its register
-pub local_register : (o r : Option ℕ) (k : ℕ) → SameFound o r → Some (bound_in 0 o) ≡ Some (variant.Local k) → IsSome r
-local_register None r k h e = absurd (not_local e)
-local_register (Some j) r k h e = h.some j refl
+pub is_registered : (o r : Option ℕ) (k : ℕ) → SameFound o r → Some (bound_in 0 o) ≡ Some (variant.Local k) → IsSome r
+is_registered None r k h e = absurd (not_local e)
+is_registered (Some j) r k h e = h.some j refl
 
 -- the main function sees no local of a function around
 pub in_main : (j : ℕ) → Some (bound_in 0 (Some j)) ≡ Some (variant.Local j)
@@ -323,3 +331,93 @@ in_main j = ap (λ b. Some (if b then variant.Up j else variant.Local j)) (not_b
 pub global_register : (o r : Option ℕ) → SameFound o r → Some (bound_in 0 o) ≡ Some variant.Global → r ≡ None
 global_register None r h e = h.none refl
 global_register (Some j) r h e = absurd (not_global (sym (in_main j) ∙ e))
+
+-- ---- registers
+
+-- a local that is found is one of those in scope
+look_below : (x : StrId) (n : ℕ) (vs : List Visible) (k : ℕ) → AreBelow n vs → look x (reverse vs) ≡ Some k → k < n
+look_below x n [] k h e = absurd (no_some e)
+look_below x n (v ∷ vs) k h e = by (v.name.0 == x.0) (sym (look_first x v vs) ∙ e) (look_below x v.local vs k h.1) where
+  by : (b : Bool) → newest b v.local (look x (reverse vs)) ≡ Some k → (look x (reverse vs) ≡ Some k → k < v.local) → k < n
+  by true e older = omega (arith, h.0, same_some e)
+  by false e older = omega (arith, h.0, older e)
+
+-- the register of a name is that of the local for which it stands
+pub registers_same : (x : StrId) (n : ℕ) (vs : List Visible) (k : ℕ) → AreBelow n vs → look x (reverse vs) ≡ Some k →
+    register_of (names_of vs) x ≡ register_at vs k
+registers_same x n [] k h e = absurd (no_some e)
+registers_same x n (v ∷ vs) k h e = by (v.name.0 == x.0) refl (sym (look_first x v vs) ∙ e) (registers_same x v.local vs k h.1) (look_below x
+    v.local vs k h.1) where
+      by : (b : Bool) → (v.name.0 == x.0) ≡ b → newest b v.local (look x (reverse vs)) ≡ Some k →
+          (look x (reverse vs) ≡ Some k → register_of (names_of vs) x ≡ register_at vs k) → (look x (reverse vs) ≡ Some k → k < v.local) →
+          register_of (names_of (v ∷ vs)) x ≡ register_at (v ∷ vs) k
+      by true is e same lower =
+          ap (λ b. if b then Some (length (names_of vs)) else register_of (names_of vs) x) is
+          ∙ sym (ap (λ b. if b then Some (length (names_of vs)) else register_at vs k) (eq-eqb v.local k (same_some e)))
+      by false is e same lower =
+          ap (λ b. if b then Some (length (names_of vs)) else register_of (names_of vs) x) is ∙ same e
+          ∙ sym (ap (λ b. if b then Some (length (names_of vs)) else register_at vs k) (ne_eqb v.local k (λ z. omega (arith, z, lower e))))
+
+bound_register : (x : StrId) (n : ℕ) (vs : List Visible) (o : Option ℕ) → AreBelow n vs → look x (reverse vs) ≡ o →
+    register_bound vs (Some (bound_in 0 o)) ≡ register_of (names_of vs) x
+bound_register x n vs None h e = sym ((look_register x vs).none e)
+bound_register x n vs (Some k) h e = ap (register_bound vs) (in_main k) ∙ sym (registers_same x n vs k h e)
+
+pub name_register : (b : Bindings) (vs : List Visible) (e : Expr) (x : StrId) → StandsAt b vs (expr e) → e.kind ≡ expr_kind.Name x →
+    register_bound vs (bound_at b e.id) ≡ register_of (names_of vs) x
+name_register b vs e x s k =
+    ap (register_bound vs) (name_bound b vs e s.0 x s.1 k)
+    ∙ bound_register x s.1.sight.declared vs (look x (reverse vs)) s.1.below refl
+
+-- ---- what stands in an expression
+
+pub operands : (b : Bindings) (vs : List Visible) (e l r : Expr) (op : BinOp) → e.kind ≡ expr_kind.Binary op l r →
+    StandsAt b vs (expr e) → Stand b vs (expr l ∷ expr r ∷ [])
+operands b vs e l r op k s = in_expr b vs e s.0 (level.Binary op l r) s.1 (ap out-ExprKind k ∙ views.outs-Binary op l r)
+
+pub right_one : (b : Bindings) (vs : List Visible) (l r : Expr) → Stand b vs (expr l ∷ expr r ∷ []) → StandsAt b vs (expr r)
+right_one b vs l r s = ([], behind_quiet b vs (expr l) (expr r ∷ []) (λ n. refl) s)
+
+pub left_operand : (b : Bindings) (vs : List Visible) (e l r seen : Expr) (op : BinOp) → e.kind ≡ expr_kind.Binary op l r → seen ≡ l →
+    StandsAt b vs (expr e) → StandsAt b vs (expr seen)
+left_operand b vs e l r seen op k same s =
+    subst (λ (z : Expr). StandsAt b vs (expr z)) (sym same) (expr r ∷ [], operands b vs e l r op k s)
+
+pub right_operand : (b : Bindings) (vs : List Visible) (e l r seen : Expr) (op : BinOp) → e.kind ≡ expr_kind.Binary op l r → seen ≡ r →
+    StandsAt b vs (expr e) → StandsAt b vs (expr seen)
+right_operand b vs e l r seen op k same s =
+    subst (λ (z : Expr). StandsAt b vs (expr z)) (sym same) (right_one b vs l r (operands b vs e l r op k s))
+
+pub call_argument : (b : Bindings) (vs : List Visible) (call callee argument seen : Expr) → call.kind ≡ expr_kind.Call callee (argument ∷ []) →
+    seen ≡ argument → StandsAt b vs (expr call) → StandsAt b vs (expr seen)
+call_argument b vs call callee argument seen k same s =
+    subst (λ (z : Expr). StandsAt b vs (expr z)) (sym same) (right_one b vs callee argument (in_expr b vs call s.0 (level.ExprKind::Call callee
+    (argument ∷ [])) s.1 (ap out-ExprKind k ∙ views.outs-ExprKind::Call callee (argument ∷ []))))
+
+-- ---- what stands in a statement
+
+pub local_value : (b : Bindings) (vs : List Visible) (x : Stat) (name : StrId) (value seen : Expr) →
+    x.kind ≡ stat_kind.Local (name ∷ []) (value ∷ []) → seen ≡ value → StandsAt b vs (stat x) → StandsAt b vs (expr seen)
+local_value b vs x name value seen k same s =
+    subst (λ (z : Expr). StandsAt b vs (expr z)) (sym same) ([], in_local b vs x s.0 (name ∷ []) (value ∷ []) s.1 k)
+
+pub assignment_parts : (b : Bindings) (vs : List Visible) (x : Stat) (target value : Expr) →
+    x.kind ≡ stat_kind.Assign (target ∷ []) (value ∷ []) → StandsAt b vs (stat x) → Stand b vs (expr target ∷ expr value ∷ [])
+assignment_parts b vs x target value k s = in_assignment b vs x s.0 (target ∷ []) (value ∷ []) s.1 k
+
+pub statement_call : (b : Bindings) (vs : List Visible) (x : Stat) (call : Expr) → x.kind ≡ stat_kind.Call call → StandsAt b vs (stat x) →
+    StandsAt b vs (expr call)
+statement_call b vs x call k s = ([], in_call_statement b vs x s.0 call s.1 k)
+
+-- a condition and its block
+pub arm_parts : (b : Bindings) (vs : List Visible) (x : Stat) (a : Arm) (other : Option (List Stat)) → x.kind ≡ stat_kind.If (a ∷ []) other →
+    StandsAt b vs (stat x) → Stand b vs (expr (out-Arm a).cond ∷ block [] (out-Arm a).body ∷ [])
+arm_parts b vs x a other k s = in_arm b vs a (else_block other) (in_branch b vs x s.0 (a ∷ []) other s.1 k)
+
+pub condition_stands : (b : Bindings) (vs : List Visible) (cond : Expr) (body : List Stat) → Stand b vs (expr cond ∷ block [] body ∷ []) →
+    StandsAt b vs (expr cond)
+condition_stands b vs cond body s = (block [] body ∷ [], s)
+
+pub block_seen : (b : Bindings) (vs : List Visible) (body seen : List Stat) → seen ≡ body → Stand b vs (map stat body) →
+    Stand b vs (map stat seen)
+block_seen b vs body seen same s = subst (λ (l : List Stat). Stand b vs (map stat l)) (sym same) s

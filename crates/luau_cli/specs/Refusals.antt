@@ -19,6 +19,7 @@ use Rattle.scopes.specs.declared.error.ScopeErr.{ScopeErr}
 use Rattle.scopes.specs.declared.error.ScopeErr.TheVariants as scope
 use Rattle.emit_stat.specs.Form.{IsBlock}
 use Rattle.emit_stat.specs.Size.{block_words}
+use Rattle.emit_stat.specs.Standing.{IsBound}
 use Rattle.emit_stat.specs.Unbuilt.{first_unbuilt}
 use Rattle.luau_cli.specs.declared.refusal.Refusal.{Refusal}
 use Rattle.luau_cli.specs.declared.script.Reading.{Reading}
@@ -112,10 +113,10 @@ broken_rule scope.OutOfMemory = None
 
 -- a script with its tree, or a text with why it is refused
 abbrev pub IsReadingOf : List ℕ → Reading → Type 0
-IsReadingOf bytes (reading.Script tree) = IsScript bytes tree
+IsReadingOf bytes (reading.Script tree bindings) = IsScript bytes tree
 IsReadingOf bytes (reading.Refused r) = IsRefused bytes (cause_of r)
 
--- a tree that is read can be compiled
+-- a tree that is read has these bindings, and can be compiled
 abbrev pub IsCompilable : Reading → Type 0
-IsCompilable (reading.Script tree) = IsBlock [] (statements tree) × (block_words (statements tree) ≤ 29998)
+IsCompilable (reading.Script tree bindings) = IsBound tree bindings × IsBlock [] (statements tree) × (block_words (statements tree) ≤ 29998)
 IsCompilable (reading.Refused r) = Unit {0}

@@ -13,13 +13,13 @@ use luau_parser::parse;
 use resource::OutOfMemory;
 use scopes::resolve;
 use std::alloc::Global;
-use syntax_tree::Tree;
+use syntax_tree::{Bindings, Tree};
 
 /// What a text is found to be.
 #[derive(Drop)]
 pub enum Reading {
-    /// An accepted script all of which is built, with its tree.
-    Script(Tree),
+    /// An accepted script all of which is built, with its tree and the bindings of the tree.
+    Script(Tree, Bindings),
     Refused(Refusal),
 }
 
@@ -48,7 +48,7 @@ pub fn read_script(alloc: Global, source: &[u8]) -> Result<Reading, OutOfMemory>
             cause: "NotBuilt 60",
             at,
         })),
-        None => Ok(Reading::Script(tree)),
+        None => Ok(Reading::Script(tree, bindings)),
     }
 }
 
