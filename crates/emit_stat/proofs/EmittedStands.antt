@@ -14,7 +14,7 @@ use Rattle.emit_stat.specs.Form.{names_after, IsStatement}
 use Rattle.emit_stat.specs.Standing.{first_at, names_of, scope_after, Stand, StandsAt}
 use Rattle.emit_stat.proofs.TreeForms.{HasLocal, local_parts, HasAssignment, assignment_parts}
 use Rattle.emit_stat.proofs.StandingParts as parts
-use Rattle.emit_stat.proofs.StandingParts.{behind_statement, names_behind, names_length}
+use Rattle.emit_stat.proofs.StandingParts.{behind_statement, names_behind}
 
 module _ (b : Bindings) (vs : List Visible) (s : Stat) (form : IsStatement (names_of vs) s) (stands : StandsAt b vs (stat s)) where
   -- ---- locals

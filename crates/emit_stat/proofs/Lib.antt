@@ -5,6 +5,7 @@ pub mod NeverStuck
 pub mod Behaving
 pub mod TreeForms
 pub mod StandingParts
+pub mod StandingNames
 pub mod ItemLists
 pub mod LabelRanges
 pub mod EmittedValues

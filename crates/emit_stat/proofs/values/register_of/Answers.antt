@@ -1,6 +1,6 @@
 use Rattle.std.proofs.Common.{◌∙◌, ap}
 use Rattle.emit_stat.specs.Standing.{register_bound}
-use Rattle.emit_stat.proofs.StandingParts.{name_register}
+use Rattle.emit_stat.proofs.StandingNames.{name_register}
 use Rattle.emit_stat.proofs.values.register_of.Goals as goal
 
 pub returns-clause-register : goal.returns-clause-register

@@ -1,7 +1,7 @@
 use Rattle.std.proofs.Common.{◌≡◌, ℕ, ◌-◌, ◌≤◌, List, length, take, drop, reverse, sym, ap, ◌∙◌, arith, length-drop}
 use Rattle.std.proofs.lemmas.List.{take-append-drop, reverse-append, length-reverse}
 use Rattle.std.proofs.Math.Seq.{drop-append_seam}
-use Rattle.emit_stat.proofs.StandingParts.{names_length}
+use Rattle.emit_stat.proofs.StandingNames.{names_length}
 use Rattle.emit_stat.proofs.scope.Scope.forget.Goals as goal
 
 reverse-take : {A : Type 0} → (n : ℕ) (xs : List A) → n ≤ length (reverse xs) → reverse (take n xs) ≡ drop (length (reverse xs) - n) (reverse xs)
