@@ -20,7 +20,8 @@ use Rattle.emit_stat.specs.Form.{register_of, operation, unless}
 use Rattle.emit_stat.specs.Fitting.{ValueForm, TargetForm, PrintNameForm, ConditionForm, CallForm, PrintForm, LocalForm, AssignmentForm, ArmForm, StatementForm, BlockForm}
 use Rattle.emit_stat.specs.Standing.{bound_at, names_of, Stand}
 use Rattle.emit_stat.proofs.BuiltNeeds.{number_is_value, name_is_value, result_is_value, comparison_is_condition, call_is_print, local_form, assignment_form, call_form, branch_form, branches_form, loop_form}
-use Rattle.emit_stat.proofs.StandingParts.{in_expr, behind_quiet, in_local, in_assignment, in_call_statement, in_branch, in_else, in_loop, in_arm, behind_condition, name_bound, look_register, local_register, global_register}
+use Rattle.emit_stat.proofs.StandingParts.{in_expr, behind_quiet, in_local, in_assignment, in_call_statement, in_branch, in_else, in_loop, in_arm, behind_condition}
+use Rattle.emit_stat.proofs.StandingNames.{name_bound, look_register, is_registered, global_register}
 
 module _ (b : Bindings) where
   -- ---- names
@@ -29,7 +30,7 @@ module _ (b : Bindings) where
   pub registered : (e : Expr) (x : StrId) (k : ℕ) → e.kind ≡ expr_kind.Name x → bound_at b e.id ≡ Some (variant.Local k) →
       (vs : List Visible) (after : List Part) → Stand b vs (expr e ∷ after) → IsSome (register_of (names_of vs) x)
   registered e x k kind is vs after s =
-      local_register (look x (reverse vs)) (register_of (names_of vs) x) k (look_register x vs) (sym (name_bound b vs e after x s kind) ∙ is)
+      is_registered (look x (reverse vs)) (register_of (names_of vs) x) k (look_register x vs) (sym (name_bound b vs e after x s kind) ∙ is)
 
   pub name_value : (e : Expr) (x : StrId) (k : ℕ) → e.kind ≡ expr_kind.Name x → bound_at b e.id ≡ Some (variant.Local k) → ValueForm b e
   name_value e x k kind is vs after s = name_is_value (names_of vs) e x kind (registered e x k kind is vs after s)

@@ -5,11 +5,13 @@ pub mod NeverStuck
 pub mod Behaving
 pub mod TreeForms
 pub mod StandingParts
+pub mod StandingNames
 pub mod ItemLists
 pub mod LabelRanges
 pub mod EmittedValues
 pub mod EmittedStatements
 pub mod EmittedBlocks
+pub mod EmittedStands
 pub mod EmittedScripts
 pub mod NodeLevels
 pub mod Built

@@ -1,13 +1,11 @@
 -- What stands in a part, and behind it.
-use Rattle.std.proofs.Common.{◌≡◌, ◌∙◌, ℕ, ◌+◌, ◌≤◌, ◌==◌, Bool, true, false, List, [], ◌∷◌, ◌++◌, map, length, reverse, Option, Some, None, IsSome, refl, sym, ap, ap₂, subst, rules, arith, append-nil, append_assoc, if◌then◌else◌}
-use Rattle.std.specs.Prelude.{nat_lt}
-use Rattle.std.proofs.lemmas.Bool.{le-ltb}
+use Rattle.std.proofs.Common.{◌≡◌, ◌∙◌, ℕ, ◌+◌, ◌≤◌, List, [], ◌∷◌, ◌++◌, map, length, reverse, Option, Some, refl, sym, ap, subst, arith, append-nil, append_assoc}
 use Rattle.std.proofs.lemmas.List.{reverse-append, reverse-reverse, map-append}
 use Rattle.byte_text.specs.declared.fixed.StrId.{StrId}
 use Rattle.syntax_tree.specs.declared.bindings.Bindings.{Bindings}
-use Rattle.syntax_tree.specs.declared.bindings.Bound.TheVariants as variant
 use Rattle.syntax_tree.specs.declared.notes.Visible.{Visible}
 use Rattle.syntax_tree.specs.declared.tree.Arm.{Arm, out-Arm}
+use Rattle.syntax_tree.specs.declared.tree.BinOp.{BinOp}
 use Rattle.syntax_tree.specs.declared.tree.Expr.{Expr}
 use Rattle.syntax_tree.specs.declared.tree.ExprKind.{out-ExprKind}
 use Rattle.syntax_tree.specs.declared.tree.ExprKind as expr_kind
@@ -18,25 +16,12 @@ use Rattle.syntax_tree.specs.declared.tree.StatKind.{out-StatKind}
 use Rattle.syntax_tree.specs.declared.tree.StatKind as stat_kind
 use Rattle.syntax_tree.specs.Lists.{or_zero}
 use Rattle.syntax_tree.specs.Numbers.{numbered}
-use Rattle.syntax_tree.specs.Scope.{look, unless_later, bound_in}
 use Rattle.scope_laws.specs.Declares.{steps, declares_stat}
 use Rattle.scope_laws.specs.Sight.{Sight, Part, ExprLevel, StatLevel, expr, stat, arm, block, shows, stat_shows, behind, visible, else_block, expr_parts, in_stat, in_part, Sees, next, enter}
 use Rattle.scope_laws.proofs.Levels.{at_stat_level, stat_is, stat_kind_is}
-use Rattle.scope_laws.proofs.Seen.{names_in_scope, nodes_have_firsts}
-use Rattle.emit_stat.specs.Form.{register_of, names_after, names_beyond}
-use Rattle.emit_stat.specs.Standing.{entry, bound_at, first_at, names_of, scope_after, AreBelow, Stand}
-
-no_none : {n : ℕ} → Some n ≡ None → ⊥
-no_none h = search rules
-
-no_some : {n : ℕ} → None ≡ Some n → ⊥
-no_some h = search rules
-
-not_local : {k : ℕ} → Some variant.Global ≡ Some (variant.Local k) → ⊥
-not_local h = search rules
-
-not_global : {k : ℕ} → Some (variant.Local k) ≡ Some variant.Global → ⊥
-not_global h = search rules
+use Rattle.scope_laws.proofs.Seen.{nodes_have_firsts}
+use Rattle.emit_stat.specs.Form.{names_after, names_beyond}
+use Rattle.emit_stat.specs.Standing.{first_at, names_of, scope_after, AreBelow, Stand, StandsAt}
 
 -- ---- numbers of locals
 
@@ -264,62 +249,55 @@ level_names _ n vs = refl
 pub names_behind : (b : Bindings) (vs : List Visible) (x : Stat) → names_of (scope_after b vs x) ≡ names_after (names_of vs) x
 names_behind b vs x = level_names (out-StatKind x.kind) (first_at b x.id) vs
 
--- what a name is bound to
-pub name_bound : (b : Bindings) (vs : List Visible) (e : Expr) (after : List Part) (x : StrId) → Stand b vs (expr e ∷ after) →
-    e.kind ≡ expr_kind.Name x → bound_at b e.id ≡ Some (bound_in 0 (look x (reverse vs)))
-name_bound b vs e after x s k =
-    ap (λ (b : Bindings). bound_at b e.id) s.is
-    ∙ ap entry (names_in_scope s.main (numbered s.main) s.sight e after x refl s.seen k)
-    ∙ ap₂ (λ first scope. Some (bound_in first (look x scope))) s.first s.scope
+-- ---- what stands in an expression
 
--- ---- looking up
+pub operands : (b : Bindings) (vs : List Visible) (e l r : Expr) (op : BinOp) → e.kind ≡ expr_kind.Binary op l r →
+    StandsAt b vs (expr e) → Stand b vs (expr l ∷ expr r ∷ [])
+operands b vs e l r op k s = in_expr b vs e s.0 (level.Binary op l r) s.1 (ap out-ExprKind k ∙ views.outs-Binary op l r)
 
-abbrev newest : Bool → ℕ → Option ℕ → Option ℕ
-newest same local older = if same then Some local else older
+pub right_one : (b : Bindings) (vs : List Visible) (l r : Expr) → Stand b vs (expr l ∷ expr r ∷ []) → StandsAt b vs (expr r)
+right_one b vs l r s = ([], behind_quiet b vs (expr l) (expr r ∷ []) (λ n. refl) s)
 
-later_newest : (same older : Bool) (local n : ℕ) (o : Option ℕ) → unless_later older n (newest same local o) ≡ newest same local (unless_later older n o)
-later_newest true older local n o = refl
-later_newest false older local n o = refl
+pub left_operand : (b : Bindings) (vs : List Visible) (e l r seen : Expr) (op : BinOp) → e.kind ≡ expr_kind.Binary op l r → seen ≡ l →
+    StandsAt b vs (expr e) → StandsAt b vs (expr seen)
+left_operand b vs e l r seen op k same s =
+    subst (λ (z : Expr). StandsAt b vs (expr z)) (sym same) (expr r ∷ [], operands b vs e l r op k s)
 
-only_newest : (same : Bool) (local : ℕ) → unless_later same local None ≡ newest same local None
-only_newest true local = refl
-only_newest false local = refl
+pub right_operand : (b : Bindings) (vs : List Visible) (e l r seen : Expr) (op : BinOp) → e.kind ≡ expr_kind.Binary op l r → seen ≡ r →
+    StandsAt b vs (expr e) → StandsAt b vs (expr seen)
+right_operand b vs e l r seen op k same s =
+    subst (λ (z : Expr). StandsAt b vs (expr z)) (sym same) (right_one b vs l r (operands b vs e l r op k s))
 
-look_last : (x : StrId) (v : Visible) (ws : List Visible) → look x (ws ++ v ∷ []) ≡ newest (v.name.0 == x.0) v.local (look x ws)
-look_last x v [] = only_newest (v.name.0 == x.0) v.local
-look_last x v (w ∷ ws) =
-    ap (unless_later (w.name.0 == x.0) w.local) (look_last x v ws)
-    ∙ later_newest (v.name.0 == x.0) (w.name.0 == x.0) v.local w.local (look x ws)
+pub call_argument : (b : Bindings) (vs : List Visible) (call callee argument seen : Expr) → call.kind ≡ expr_kind.Call callee (argument ∷ []) →
+    seen ≡ argument → StandsAt b vs (expr call) → StandsAt b vs (expr seen)
+call_argument b vs call callee argument seen k same s =
+    subst (λ (z : Expr). StandsAt b vs (expr z)) (sym same) (right_one b vs callee argument (in_expr b vs call s.0 (level.ExprKind::Call callee
+    (argument ∷ [])) s.1 (ap out-ExprKind k ∙ views.outs-ExprKind::Call callee (argument ∷ []))))
 
-pub look_first : (x : StrId) (v : Visible) (vs : List Visible) → look x (reverse (v ∷ vs)) ≡ newest (v.name.0 == x.0) v.local (look x (reverse vs))
-look_first x v vs = ap (look x) (reverse-append (v ∷ []) vs) ∙ look_last x v (reverse vs)
+-- ---- what stands in a statement
 
--- a name has a register exactly where it stands for a local
-pub record SameFound (o r : Option ℕ) : Type 0 where
-  pub none : o ≡ None → r ≡ None
-  pub some : (k : ℕ) → o ≡ Some k → IsSome r
+pub local_value : (b : Bindings) (vs : List Visible) (x : Stat) (name : StrId) (value seen : Expr) →
+    x.kind ≡ stat_kind.Local (name ∷ []) (value ∷ []) → seen ≡ value → StandsAt b vs (stat x) → StandsAt b vs (expr seen)
+local_value b vs x name value seen k same s =
+    subst (λ (z : Expr). StandsAt b vs (expr z)) (sym same) ([], in_local b vs x s.0 (name ∷ []) (value ∷ []) s.1 k)
 
-found_by : (same : Bool) (local register : ℕ) (o r : Option ℕ) → SameFound o r → SameFound (newest same local o) (if same then Some register else r)
-found_by true local register o r h = record { none = λ e. absurd (no_none e); some = λ k e. refl }
-found_by false local register o r h = h
+pub assignment_parts : (b : Bindings) (vs : List Visible) (x : Stat) (target value : Expr) →
+    x.kind ≡ stat_kind.Assign (target ∷ []) (value ∷ []) → StandsAt b vs (stat x) → Stand b vs (expr target ∷ expr value ∷ [])
+assignment_parts b vs x target value k s = in_assignment b vs x s.0 (target ∷ []) (value ∷ []) s.1 k
 
-pub look_register : (x : StrId) (vs : List Visible) → SameFound (look x (reverse vs)) (register_of (names_of vs) x)
-look_register x [] = record { none = λ e. refl; some = λ k e. absurd (no_some e) }
-look_register x (v ∷ vs) =
-    subst (λ o. SameFound o (register_of (names_of (v ∷ vs)) x)) (sym (look_first x v vs))
-    (found_by (v.name.0 == x.0) v.local (length (names_of vs)) (look x (reverse vs)) (register_of (names_of vs) x) (look_register x vs))
+pub statement_call : (b : Bindings) (vs : List Visible) (x : Stat) (call : Expr) → x.kind ≡ stat_kind.Call call → StandsAt b vs (stat x) →
+    StandsAt b vs (expr call)
+statement_call b vs x call k s = ([], in_call_statement b vs x s.0 call s.1 k)
 
--- what a name's binding says of its register
-pub local_register : (o r : Option ℕ) (k : ℕ) → SameFound o r → Some (bound_in 0 o) ≡ Some (variant.Local k) → IsSome r
-local_register None r k h e = absurd (not_local e)
-local_register (Some j) r k h e = h.some j refl
+-- a condition and its block
+pub arm_parts : (b : Bindings) (vs : List Visible) (x : Stat) (a : Arm) (other : Option (List Stat)) → x.kind ≡ stat_kind.If (a ∷ []) other →
+    StandsAt b vs (stat x) → Stand b vs (expr (out-Arm a).cond ∷ block [] (out-Arm a).body ∷ [])
+arm_parts b vs x a other k s = in_arm b vs a (else_block other) (in_branch b vs x s.0 (a ∷ []) other s.1 k)
 
--- the main function sees no local of a function around
-pub in_main : (j : ℕ) → Some (bound_in 0 (Some j)) ≡ Some (variant.Local j)
-in_main j = ap (λ b. Some (if b then variant.Up j else variant.Local j)) (not_below j) where
-  not_below : (j : ℕ) → nat_lt j 0 ≡ false
-  not_below j = le-ltb j 0 (omega arith)
+pub condition_stands : (b : Bindings) (vs : List Visible) (cond : Expr) (body : List Stat) → Stand b vs (expr cond ∷ block [] body ∷ []) →
+    StandsAt b vs (expr cond)
+condition_stands b vs cond body s = (block [] body ∷ [], s)
 
-pub global_register : (o r : Option ℕ) → SameFound o r → Some (bound_in 0 o) ≡ Some variant.Global → r ≡ None
-global_register None r h e = h.none refl
-global_register (Some j) r h e = absurd (not_global (sym (in_main j) ∙ e))
+pub block_seen : (b : Bindings) (vs : List Visible) (body seen : List Stat) → seen ≡ body → Stand b vs (map stat body) →
+    Stand b vs (map stat seen)
+block_seen b vs body seen same s = subst (λ (l : List Stat). Stand b vs (map stat l)) (sym same) s

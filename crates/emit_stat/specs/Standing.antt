@@ -1,8 +1,9 @@
 -- Where the parts of a script stand, as its bindings tell it: which locals are in scope there.
-use Rattle.std.specs.Prelude.{◌≡◌, ℕ, ◌<◌, List, [], ◌∷◌, ◌++◌, map, reverse, Option, Some, None, slice_get}
+use Rattle.std.specs.Prelude.{◌≡◌, ℕ, ◌<◌, List, [], ◌∷◌, ◌++◌, map, reverse, length, nat_eq, if◌then◌else◌, Option, Some, None, slice_get}
 use Rattle.byte_text.specs.declared.fixed.StrId.{StrId}
 use Rattle.syntax_tree.specs.declared.bindings.Bindings.{Bindings}
 use Rattle.syntax_tree.specs.declared.bindings.Bound.{Bound}
+use Rattle.syntax_tree.specs.declared.bindings.Bound.TheVariants as variant
 use Rattle.syntax_tree.specs.declared.notes.Visible.{Visible}
 use Rattle.syntax_tree.specs.declared.tree.FuncBody.{FuncBody, out-FuncBody}
 use Rattle.syntax_tree.specs.declared.tree.Stat.{Stat}
@@ -25,7 +26,7 @@ bound_at b number = entry (slice_get b.names number)
 abbrev pub first_at : Bindings → ℕ → ℕ
 first_at b number = or_zero (slice_get b.firsts number)
 
--- the names of locals
+-- the names of locals in scope
 abbrev pub names_of : List Visible → List StrId
 names_of vs = map (λ (v : Visible). v.name) vs
 
@@ -48,6 +49,20 @@ pub record Stand (b : Bindings) (vs : List Visible) (ps : List Part) : Type 0 wh
   pub scope : sight.scope ≡ reverse vs
   pub first : sight.first ≡ 0
   pub below : AreBelow sight.declared vs
+
+-- a part stands somewhere
+abbrev pub StandsAt : Bindings → List Visible → Part → Type 0
+StandsAt b vs p = (after : List Part) × Stand b vs (p ∷ after)
+
+-- the register of a local in scope: they have registers from 0 on, the oldest first
+abbrev pub register_at : List Visible → ℕ → Option ℕ
+register_at [] local = None
+register_at (v ∷ vs) local = if nat_eq v.local local then Some (length (names_of vs)) else register_at vs local
+
+-- the register of what a name is bound to
+abbrev pub register_bound : List Visible → Option Bound → Option ℕ
+register_bound vs (Some (variant.Local local)) = register_at vs local
+register_bound vs _ = None
 
 -- a tree whose nodes are numbered in source order, with its bindings, whose main function has no parameters
 pub record IsBound (tree : Tree) (b : Bindings) : Type 0 where

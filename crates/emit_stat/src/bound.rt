@@ -1,7 +1,7 @@
 //! What the bindings say of a node.
 
 ghost use Rattle.std.specs.Prelude.{◌≡◌};
-ghost use Rattle.emit_stat.specs.Standing.{bound_at};
+ghost use Rattle.emit_stat.specs.Standing.{bound_at, first_at};
 
 use syntax_tree::{Bindings, Bound};
 
@@ -12,5 +12,15 @@ pub fn bound_at(bindings: &Bindings, number: usize) -> Option<Bound>
     match bindings.names.get(number) {
         Some(bound) => *bound,
         None => None,
+    }
+}
+
+/// The number of the first local that the node with that number declares.
+pub fn first_at(bindings: &Bindings, number: usize) -> usize
+    ensures { result ≡ first_at bindings.now number }
+{
+    match bindings.firsts.get(number) {
+        Some(first) => *first,
+        None => 0,
     }
 }

@@ -1,26 +1,26 @@
 //! The locals in scope, with their registers.
 
 ghost use Rattle.std.specs.Prelude.{◌≡◌, ◌-◌, ◌<◌, ◌≤◌, [], ◌∷◌, length, drop, OnOk, IfSome};
-ghost use Rattle.emit_stat.specs.Form.{register_of};
+ghost use Rattle.emit_stat.specs.Standing.{names_of, register_at};
 
-use byte_text::StrId;
 use resource::OutOfMemory;
 use std::alloc::Global;
 use std::marker::Model;
+use syntax_tree::Visible;
 
-/// The names of the locals, seen as their list, the newest first. The oldest is in register 0.
+/// The locals in scope, seen as their list, the newest first. The oldest is in register 0.
 #[derive(Drop)]
 pub struct Scope {
-    names: Vec<StrId>,
+    locals: Vec<Visible>,
 }
 
 impl Model for Scope {
     ghost use Rattle.std.specs.Prelude.{List, reverse};
-    ghost use Rattle.byte_text.specs.declared.fixed.StrId.{StrId};
+    ghost use Rattle.syntax_tree.specs.declared.notes.Visible.{Visible};
 
-    ghost Value = { List StrId };
+    ghost Value = { List Visible };
 
-    ghost view = { λ s. reverse s.names.items };
+    ghost view = { λ s. reverse s.locals.items };
 }
 
 impl Scope {
@@ -28,33 +28,33 @@ impl Scope {
         ensures { result ≡ [] }
     {
         Scope {
-            names: Vec::new(alloc),
+            locals: Vec::new(alloc),
         }
     }
 
     /// The first free register.
     pub fn free_register(&self) -> usize
-        ensures { result ≡ length self.now }
+        ensures { result ≡ length (names_of self.now) }
     {
-        self.names.len()
+        self.locals.len()
     }
 
-    pub fn declare(&mut self, name: StrId) -> Result<(), OutOfMemory>
-        ensures { OnOk result (self.new ≡ name ∷ self.old) }
+    pub fn declare(&mut self, local: Visible) -> Result<(), OutOfMemory>
+        ensures { OnOk result (self.new ≡ local ∷ self.old) }
     {
-        self.names.push(name)?;
+        self.locals.push(local)?;
         Ok(())
     }
 
-    /// The register of the newest local of the name.
-    pub fn register_of(&self, name: StrId) -> Option<usize>
-        ensures register { result ≡ register_of self.now name }
-        ensures within { IfSome result (λ r. r < length self.now) }
+    /// The register of the local with that number.
+    pub fn register_of(&self, local: usize) -> Option<usize>
+        ensures register { result ≡ register_at self.now local }
+        ensures within { IfSome result (λ r. r < length (names_of self.now)) }
     {
-        let mut left = self.names.len();
+        let mut left = self.locals.len();
         while left > 0 {
             left -= 1;
-            if self.names[left] == name {
+            if self.locals[left].local == local {
                 return Some(left);
             }
         }
@@ -63,9 +63,9 @@ impl Scope {
 
     /// Forgets the newest locals, until so many are left.
     pub fn forget(&mut self, left: usize)
-        requires { left ≤ length self.old }
-        ensures { self.new ≡ drop (length self.old - left) self.old }
+        requires { left ≤ length (names_of self.old) }
+        ensures { self.new ≡ drop (length (names_of self.old) - left) self.old }
     {
-        self.names.truncate(left);
+        self.locals.truncate(left);
     }
 }

@@ -1,7 +1,9 @@
 //! The compiler, from the tree to words.
 
 ghost use Rattle.std.specs.Prelude.{◌≤◌, [], IfOk};
+ghost use Rattle.syntax_tree.specs.declared.tree.FuncBody.{out-FuncBody};
 ghost use Rattle.emit_stat.specs.Form.{IsBlock};
+ghost use Rattle.emit_stat.specs.Standing.{IsBound};
 ghost use Rattle.emit_stat.specs.Size.{block_words};
 ghost use Rattle.emit_stat.specs.Correct.{Behaves};
 ghost use Rattle.emit_stat.specs.Emitted.{IsEmitted};
@@ -15,28 +17,30 @@ use machine_meaning::{Code, Constant};
 use op_words::Insn;
 use resource::OutOfMemory;
 use std::alloc::Global;
-use syntax_tree::Stat;
+use syntax_tree::{Bindings, Tree};
 
-/// The words of a script, at level 0. The only error is want of memory.
-pub fn compile(alloc: Global, body: &[Stat]) -> Result<Code, OutOfMemory>
-    requires form { IsBlock [] body.now }
-    requires small { block_words body.now ≤ 29998 }
-    ensures { IfOk result (λ code. Behaves body.now code.words.items code.constants.items) }
+/// The words of a script, at level 0. The bindings are those of its tree. The only error is want of memory.
+pub fn compile(alloc: Global, tree: &Tree, bindings: &Bindings) -> Result<Code, OutOfMemory>
+    requires bound { IsBound tree.now bindings.now }
+    requires form { IsBlock [] (out-FuncBody tree.now.main).body }
+    requires small { block_words (out-FuncBody tree.now.main).body ≤ 29998 }
+    ensures { IfOk result (λ code. Behaves (out-FuncBody tree.now.main).body code.words.items code.constants.items) }
 {
     let Draft {
         items,
         constants,
         ..
-    } = emit_script(alloc, body)?;
+    } = emit_script(alloc, tree, bindings)?;
     let Linked { code: words } = link(alloc, Labelled { items })?;
     Ok(Code { words, constants })
 }
 
 // The code of a script with labels.
-fn emit_script(alloc: Global, body: &[Stat]) -> Result<Draft, OutOfMemory>
-    requires form { IsBlock [] body.now }
-    requires small { block_words body.now ≤ 29998 }
-    ensures { IfOk result (IsEmitted body.now) }
+fn emit_script(alloc: Global, tree: &Tree, bindings: &Bindings) -> Result<Draft, OutOfMemory>
+    requires bound { IsBound tree.now bindings.now }
+    requires form { IsBlock [] (out-FuncBody tree.now.main).body }
+    requires small { block_words (out-FuncBody tree.now.main).body ≤ 29998 }
+    ensures { IfOk result (IsEmitted (out-FuncBody tree.now.main).body) }
 {
     let mut code = Draft {
         items: Vec::new(alloc),
@@ -46,7 +50,7 @@ fn emit_script(alloc: Global, body: &[Stat]) -> Result<Draft, OutOfMemory>
     let mut scope = Scope::new(alloc);
     code.constants.push(Constant::Text(StrId::PRINT))?;
     put(&mut code, Item::Insn(Insn::PrepVarargs { parameters: 0 }))?;
-    emit_block(&mut code, &mut scope, body)?;
+    emit_block(&mut code, &mut scope, bindings, tree.main.body.as_slice())?;
     put(&mut code, Item::Insn(Insn::Return { base: 0, values: 1 }))?;
     Ok(code)
 }

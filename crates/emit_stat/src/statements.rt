@@ -1,17 +1,20 @@
 //! The code of statements.
 
-ghost use Rattle.std.specs.Prelude.{◌≡◌, ◌+◌, ◌^◌, ◌<◌, ◌≤◌, length, OnOk, Some, IsSome};
-ghost use Rattle.emit_stat.specs.Form.{room, unless, names_after, IsArithmetic, IsCondition, IsPrint, IsStatement, IsBlock};
+ghost use Rattle.std.specs.Prelude.{◌≡◌, ◌+◌, ◌^◌, ◌<◌, ◌≤◌, [], ◌∷◌, map, length, OnOk, Some, IsSome};
+ghost use Rattle.emit_stat.specs.Form.{room, unless, IsArithmetic, IsCondition, IsPrint, IsStatement, IsBlock};
 ghost use Rattle.emit_stat.specs.Size.{expr_words, stat_words, block_words};
 ghost use Rattle.emit_stat.specs.Emitted.{NamesPrint, IsTarget, EmitsAssignment, EmitsPrint, EmitsTest, EmitsStatement, EmitsBlock};
+ghost use Rattle.emit_stat.specs.Standing.{names_of, scope_after, Stand, StandsAt};
+ghost use Rattle.scope_laws.specs.Sight as sight;
 
+use crate::bound::first_at;
 use crate::draft::{Draft, new_label, put};
 use crate::scope::Scope;
-use crate::values::emit_value;
+use crate::values::{emit_value, register_of};
 use code_link::Item;
 use op_words::Insn;
 use resource::OutOfMemory;
-use syntax_tree::{BinOp, Expr, ExprKind, Stat, StatKind};
+use syntax_tree::{BinOp, Bindings, Expr, ExprKind, Stat, StatKind, Visible};
 
 // The constant that names `print`, which each script has first.
 const PRINT: u32 = 0;
@@ -21,32 +24,37 @@ const PRINT: u32 = 0;
 fn emit_assignment(
     code: &mut Draft,
     scope: &Scope,
+    bindings: &Bindings,
     target: &Expr,
     value: &Expr,
 ) -> Result<(), OutOfMemory>
-    requires target { IsTarget scope.now target.now }
-    requires value { IsArithmetic scope.now (room scope.now 0) value.now }
-    requires few { length scope.now ≤ 200 }
+    requires stand { Stand bindings.now scope.now (sight.expr target.now ∷ sight.expr value.now ∷ []) }
+    requires target { IsTarget (names_of scope.now) target.now }
+    requires value { IsArithmetic (names_of scope.now) (room (names_of scope.now) 0) value.now }
+    requires few { length (names_of scope.now) ≤ 200 }
     requires room { length code.old.constants.items + expr_words value.now ≤ 2 ^ 15 }
-    ensures { OnOk result (EmitsAssignment scope.now target.now value.now code.old code.new) }
+    ensures { OnOk result (EmitsAssignment (names_of scope.now) target.now value.now code.old code.new) }
 {
-    let ExprKind::Name(name) = &target.kind else {
-        unreachable!()
-    };
-    let to = scope.register_of(*name).unwrap() as u8;
+    let to = register_of(scope, bindings, target).unwrap() as u8;
     let from = scope.free_register() as u8;
-    emit_value(code, scope, from, value)?;
+    emit_value(code, scope, bindings, from, value)?;
     put(code, Item::Insn(Insn::Move { to, from }))
 }
 
 // A call of `print` with one value.
 #[tactic(auto, using(crate::proofs::EmittedStatements::argument_form, crate::proofs::EmittedStatements::argument_words, crate::proofs::EmittedStatements::emits_of_print))]
-fn emit_print(code: &mut Draft, scope: &Scope, call: &Expr) -> Result<(), OutOfMemory>
-    requires form { IsPrint scope.now call.now }
-    requires few { length scope.now ≤ 200 }
+fn emit_print(
+    code: &mut Draft,
+    scope: &Scope,
+    bindings: &Bindings,
+    call: &Expr,
+) -> Result<(), OutOfMemory>
+    requires stands { StandsAt bindings.now scope.now (sight.expr call.now) }
+    requires form { IsPrint (names_of scope.now) call.now }
+    requires few { length (names_of scope.now) ≤ 200 }
     requires room { length code.old.constants.items + expr_words call.now ≤ 2 ^ 15 }
     requires print { NamesPrint code.old }
-    ensures { OnOk result (EmitsPrint scope.now call.now code.old code.new) }
+    ensures { OnOk result (EmitsPrint (names_of scope.now) call.now code.old code.new) }
 {
     let ExprKind::Call { args, .. } = &call.kind else {
         unreachable!()
@@ -57,7 +65,7 @@ fn emit_print(code: &mut Draft, scope: &Scope, call: &Expr) -> Result<(), OutOfM
         constant: PRINT,
     };
     put(code, Item::Insn(name))?;
-    emit_value(code, scope, base + 1, &args.as_slice()[0])?;
+    emit_value(code, scope, bindings, base + 1, &args.as_slice()[0])?;
     let call = Insn::Call {
         base,
         arguments: 2,
@@ -109,60 +117,78 @@ fn unless(op: BinOp, left: u8, right: u8) -> Insn
 
 // Goes on where a condition holds, and else to the label.
 #[tactic(auto, using(crate::proofs::EmittedStatements::emits_of_test))]
-fn emit_test(code: &mut Draft, scope: &Scope, label: usize, cond: &Expr) -> Result<(), OutOfMemory>
-    requires form { IsCondition scope.now cond.now }
-    requires few { length scope.now ≤ 200 }
+fn emit_test(
+    code: &mut Draft,
+    scope: &Scope,
+    bindings: &Bindings,
+    label: usize,
+    cond: &Expr,
+) -> Result<(), OutOfMemory>
+    requires stands { StandsAt bindings.now scope.now (sight.expr cond.now) }
+    requires form { IsCondition (names_of scope.now) cond.now }
+    requires few { length (names_of scope.now) ≤ 200 }
     requires room { length code.old.constants.items + expr_words cond.now ≤ 2 ^ 15 }
     requires label { label < code.old.labels }
-    ensures { OnOk result (EmitsTest scope.now label cond.now code.old code.new) }
+    ensures { OnOk result (EmitsTest (names_of scope.now) label cond.now code.old code.new) }
 {
     let ExprKind::Binary { op, a, b } = &cond.kind else {
         unreachable!()
     };
     let left = scope.free_register() as u8;
-    emit_value(code, scope, left, a.get())?;
-    emit_value(code, scope, left + 1, b.get())?;
+    emit_value(code, scope, bindings, left, a.get())?;
+    emit_value(code, scope, bindings, left + 1, b.get())?;
     put(code, Item::Branch(unless(*op, left, left + 1), label))
 }
 
 // The code of a statement. A new local gets the first free register.
 #[cycle(statements)]
-fn emit_statement(code: &mut Draft, scope: &mut Scope, stat: &Stat) -> Result<(), OutOfMemory>
-    requires form { IsStatement scope.old stat.now }
-    requires few { length scope.old ≤ 200 }
+fn emit_statement(
+    code: &mut Draft,
+    scope: &mut Scope,
+    bindings: &Bindings,
+    stat: &Stat,
+) -> Result<(), OutOfMemory>
+    requires stands { StandsAt bindings.now scope.old (sight.stat stat.now) }
+    requires form { IsStatement (names_of scope.old) stat.now }
+    requires few { length (names_of scope.old) ≤ 200 }
     requires room { length code.old.constants.items + stat_words stat.now ≤ 2 ^ 15 }
     requires labels { code.old.labels + stat_words stat.now ≤ 2 ^ 15 }
     requires print { NamesPrint code.old }
-    ensures code { OnOk result (EmitsStatement scope.old stat.now code.old code.new) }
-    ensures scope { OnOk result (scope.new ≡ names_after scope.old stat.now) }
+    ensures code { OnOk result (EmitsStatement (names_of scope.old) stat.now code.old code.new) }
+    ensures scope { OnOk result (scope.new ≡ scope_after bindings.now scope.old stat.now) }
 {
     match &stat.kind {
         StatKind::Local { names, values } => {
             let free = scope.free_register() as u8;
-            emit_value(code, scope, free, &values.as_slice()[0])?;
-            scope.declare(names.as_slice()[0])
+            emit_value(code, scope, bindings, free, &values.as_slice()[0])?;
+            let local = first_at(bindings, stat.id);
+            scope.declare(Visible {
+                name: names.as_slice()[0],
+                local,
+            })
         }
         StatKind::Assign { targets, values } => {
-            emit_assignment(code, scope, &targets.as_slice()[0], &values.as_slice()[0])
+            let target = &targets.as_slice()[0];
+            emit_assignment(code, scope, bindings, target, &values.as_slice()[0])
         }
-        StatKind::Call(call) => emit_print(code, scope, call),
+        StatKind::Call(call) => emit_print(code, scope, bindings, call),
         StatKind::If { arms, other } => match other {
             None => {
                 let arm = &arms.as_slice()[0];
                 let over = new_label(code);
-                emit_test(code, scope, over, &arm.cond)?;
-                emit_block(code, scope, arm.body.as_slice())?;
+                emit_test(code, scope, bindings, over, &arm.cond)?;
+                emit_block(code, scope, bindings, arm.body.as_slice())?;
                 put(code, Item::Label(over))
             }
             Some(others) => {
                 let arm = &arms.as_slice()[0];
                 let to_other = new_label(code);
                 let over = new_label(code);
-                emit_test(code, scope, to_other, &arm.cond)?;
-                emit_block(code, scope, arm.body.as_slice())?;
+                emit_test(code, scope, bindings, to_other, &arm.cond)?;
+                emit_block(code, scope, bindings, arm.body.as_slice())?;
                 put(code, Item::Branch(Insn::Jump { by: 0 }, over))?;
                 put(code, Item::Label(to_other))?;
-                emit_block(code, scope, others.as_slice())?;
+                emit_block(code, scope, bindings, others.as_slice())?;
                 put(code, Item::Label(over))
             }
         },
@@ -170,8 +196,8 @@ fn emit_statement(code: &mut Draft, scope: &mut Scope, stat: &Stat) -> Result<()
             let start = new_label(code);
             let over = new_label(code);
             put(code, Item::Label(start))?;
-            emit_test(code, scope, over, cond.get())?;
-            emit_block(code, scope, body.as_slice())?;
+            emit_test(code, scope, bindings, over, cond.get())?;
+            emit_block(code, scope, bindings, body.as_slice())?;
             put(code, Item::Branch(Insn::JumpBack { by: 0 }, start))?;
             put(code, Item::Label(over))
         }
@@ -181,17 +207,23 @@ fn emit_statement(code: &mut Draft, scope: &mut Scope, stat: &Stat) -> Result<()
 
 /// The code of a block, whose locals are forgotten behind it.
 #[cycle(statements)]
-pub fn emit_block(code: &mut Draft, scope: &mut Scope, block: &[Stat]) -> Result<(), OutOfMemory>
-    requires form { IsBlock scope.old block.now }
+pub fn emit_block(
+    code: &mut Draft,
+    scope: &mut Scope,
+    bindings: &Bindings,
+    block: &[Stat],
+) -> Result<(), OutOfMemory>
+    requires stand { Stand bindings.now scope.old (map sight.stat block.now) }
+    requires form { IsBlock (names_of scope.old) block.now }
     requires room { length code.old.constants.items + block_words block.now ≤ 2 ^ 15 }
     requires labels { code.old.labels + block_words block.now ≤ 2 ^ 15 }
     requires print { NamesPrint code.old }
-    ensures code { OnOk result (EmitsBlock scope.old block.now code.old code.new) }
+    ensures code { OnOk result (EmitsBlock (names_of scope.old) block.now code.old code.new) }
     ensures scope { OnOk result (scope.new ≡ scope.old) }
 {
     let outer = scope.free_register();
     for stat in block {
-        emit_statement(code, scope, stat)?;
+        emit_statement(code, scope, bindings, stat)?;
     }
     scope.forget(outer);
     Ok(())

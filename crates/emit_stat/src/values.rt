@@ -1,16 +1,21 @@
 //! The code of values.
 
 ghost use Rattle.std.specs.Prelude.{◌≡◌, ◌+◌, ◌-◌, ◌^◌, ◌<◌, ◌≤◌, length, OnOk, Some, IsSome, IfSome};
-ghost use Rattle.emit_stat.specs.Form.{operation, IsArithmetic};
+ghost use Rattle.emit_stat.specs.Form.{operation, register_of, IsArithmetic};
 ghost use Rattle.emit_stat.specs.Size.{expr_words};
 ghost use Rattle.emit_stat.specs.Emitted.{EmitsNumber, EmitsValue};
+ghost use Rattle.emit_stat.specs.Standing.{names_of, register_bound, StandsAt};
+ghost use Rattle.scope_laws.specs.Sight.{expr};
+ghost use Rattle.byte_text.specs.declared.fixed.StrId.{StrId};
+ghost use Rattle.syntax_tree.specs.declared.tree.ExprKind as ExprKind;
 
+use crate::bound::bound_at;
 use crate::draft::{Draft, add_number, put};
 use crate::scope::Scope;
 use code_link::Item;
 use op_words::Insn;
 use resource::OutOfMemory;
-use syntax_tree::{BinOp, Expr, ExprKind};
+use syntax_tree::{BinOp, Bindings, Bound, Expr, ExprKind};
 use whole_num::Whole;
 
 // The number as one of 16 bits, if it is small enough.
@@ -34,23 +39,50 @@ fn emit_number(code: &mut Draft, to: u8, n: Whole) -> Result<(), OutOfMemory>
     }
 }
 
+// The register of what a name is bound to.
+fn register_bound(scope: &Scope, bound: Option<Bound>) -> Option<usize>
+    ensures register { result ≡ register_bound scope.now bound }
+    ensures within { IfSome result (λ r. r < length (names_of scope.now)) }
+{
+    match bound {
+        Some(Bound::Local(local)) => scope.register_of(local),
+        Some(Bound::Up(_)) | Some(Bound::Global) | None => None,
+    }
+}
+
+/// The register of the local that an expression names.
+pub fn register_of(scope: &Scope, bindings: &Bindings, e: &Expr) -> Option<usize>
+    requires { StandsAt bindings.now scope.now (expr e.now) }
+    ensures register { (x : StrId) → e.now.kind ≡ ExprKind.Name x → result ≡ register_of (names_of scope.now) x }
+    ensures within { IfSome result (λ r. r < length (names_of scope.now)) }
+{
+    register_bound(scope, bound_at(bindings, e.id))
+}
+
 /// Leaves the value of an expression in register `to`, and changes only those from there on.
 #[tactic(auto, using(crate::proofs::EmittedValues::emits_of_number, crate::proofs::EmittedValues::emits_of_name, crate::proofs::EmittedValues::emits_of_result, crate::proofs::EmittedValues::second_register))]
-pub fn emit_value(code: &mut Draft, scope: &Scope, to: u8, e: &Expr) -> Result<(), OutOfMemory>
-    requires form { IsArithmetic scope.now (256 - to) e.now }
-    requires above { length scope.now ≤ to }
+pub fn emit_value(
+    code: &mut Draft,
+    scope: &Scope,
+    bindings: &Bindings,
+    to: u8,
+    e: &Expr,
+) -> Result<(), OutOfMemory>
+    requires form { IsArithmetic (names_of scope.now) (256 - to) e.now }
+    requires stands { StandsAt bindings.now scope.now (expr e.now) }
+    requires above { length (names_of scope.now) ≤ to }
     requires room { length code.old.constants.items + expr_words e.now ≤ 2 ^ 15 }
-    ensures { OnOk result (EmitsValue scope.now to e.now code.old code.new) }
+    ensures { OnOk result (EmitsValue (names_of scope.now) to e.now code.old code.new) }
 {
     match &e.kind {
         ExprKind::Num(n) => emit_number(code, to, *n),
-        ExprKind::Name(name) => {
-            let from = scope.register_of(*name).unwrap() as u8;
+        ExprKind::Name(_) => {
+            let from = register_of(scope, bindings, e).unwrap() as u8;
             put(code, Item::Insn(Insn::Move { to, from }))
         }
         ExprKind::Binary { op, a, b } => {
-            emit_value(code, scope, to, a.get())?;
-            emit_value(code, scope, to + 1, b.get())?;
+            emit_value(code, scope, bindings, to, a.get())?;
+            emit_value(code, scope, bindings, to + 1, b.get())?;
             put(code, Item::Insn(operation(*op, to)))
         }
         _ => unreachable!(),

@@ -9,6 +9,7 @@ use Rattle.syntax_tree.specs.Bound.{bound}
 use Rattle.syntax_tree.specs.Causes.{refusal_text}
 use Rattle.emit_stat.specs.Form.{IsBlock}
 use Rattle.emit_stat.specs.Size.{block_words}
+use Rattle.emit_stat.specs.Standing.{IsBound}
 use Rattle.emit_stat.specs.Unbuilt.{first_unbuilt}
 use Rattle.luau_cli.specs.declared.refusal.ScriptErr.{ScriptErr}
 use Rattle.luau_cli.specs.declared.refusal.ScriptErr.TheVariants as error
@@ -42,10 +43,10 @@ error_text (error.NotBuilt at) = codes "NotBuilt 60 at " ++ decimal at
 
 -- a script with its tree, or a text with why it is refused
 abbrev pub IsReadingOf : List ℕ → Reading → Type 0
-IsReadingOf bytes (reading.Script tree) = IsScript bytes tree
+IsReadingOf bytes (reading.Script tree bindings) = IsScript bytes tree
 IsReadingOf bytes (reading.Refused why) = IsRefused bytes why
 
--- a tree that is read can be compiled
+-- a tree that is read has these bindings, and can be compiled
 abbrev pub IsCompilable : Reading → Type 0
-IsCompilable (reading.Script tree) = IsBlock [] (statements tree) × (block_words (statements tree) ≤ 29998)
+IsCompilable (reading.Script tree bindings) = IsBound tree bindings × IsBlock [] (statements tree) × (block_words (statements tree) ≤ 29998)
 IsCompilable (reading.Refused why) = Unit {0}

@@ -28,8 +28,8 @@ pub fn reply_to_script(alloc: Global, source: &[u8], turns: u32) -> Result<Reply
 {
     match read_script(alloc, source)? {
         Reading::Refused(why) => reply_to_refused(alloc, why),
-        Reading::Script(tree) => {
-            let code = compile(alloc, tree.main.body.as_slice())?;
+        Reading::Script(tree, bindings) => {
+            let code = compile(alloc, &tree, &bindings)?;
             let ran = run(alloc, &code, turns)?;
             reply_to_run(alloc, ran)
         }

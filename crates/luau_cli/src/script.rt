@@ -14,13 +14,13 @@ use luau_parser::parse;
 use resource::OutOfMemory;
 use scopes::resolve;
 use std::alloc::Global;
-use syntax_tree::{Refusal, Tree};
+use syntax_tree::{Bindings, Refusal, Tree};
 
 /// What a text is found to be.
 #[derive(Drop)]
 pub enum Reading {
-    /// An accepted script all of which is built, with its tree.
-    Script(Tree),
+    /// An accepted script all of which is built, with its tree and the bindings of the tree.
+    Script(Tree, Bindings),
     Refused(ScriptErr),
 }
 
@@ -46,7 +46,7 @@ pub fn read_script(alloc: Global, source: &[u8]) -> Result<Reading, OutOfMemory>
     };
     match first_unbuilt(&tree, &bindings) {
         Some(at) => Ok(Reading::Refused(ScriptErr::NotBuilt { at })),
-        None => Ok(Reading::Script(tree)),
+        None => Ok(Reading::Script(tree, bindings)),
     }
 }
 

@@ -1,19 +1,21 @@
 use Rattle.std.proofs.Common.{◌-◌, ◌+◌, sym, ap, subst, arith}
+use Rattle.emit_stat.specs.Standing.{names_of}
 use Rattle.emit_stat.specs.Form.{room, IsArithmetic}
 use Rattle.emit_stat.specs.Size.{expr_words}
 use Rattle.emit_stat.proofs.TreeForms.{comparison, words_of_result, more_registers}
+use Rattle.emit_stat.proofs.StandingParts.{left_operand, right_operand}
 use Rattle.emit_stat.proofs.ItemLists.{length_extended}
 use Rattle.emit_stat.proofs.statements.emit_test.Goals as goal
 
 pub emit_value-requires-clause-form : goal.emit_value-requires-clause-form
 emit_value-requires-clause-form c =
-    let p = comparison c.args.scope.now c.args.cond.now c.in-Binary.a c.in-Binary.b c.in-Binary.op c.requires.form c.in-Binary.is in
-    more_registers c.args.scope.now (room c.args.scope.now 0) (256 - c.free_register-left.result) c.get.result.now (omega arith) (subst (λ x. IsArithmetic c.args.scope.now (room c.args.scope.now 0) x) (sym c.get.ensures) p.left)
+    let p = comparison (names_of c.args.scope.now) c.args.cond.now c.in-Binary.a c.in-Binary.b c.in-Binary.op c.requires.form c.in-Binary.is in
+    more_registers (names_of c.args.scope.now) (room (names_of c.args.scope.now) 0) (256 - c.free_register-left.result) c.get.result.now (omega arith) (subst (λ x. IsArithmetic (names_of c.args.scope.now) (room (names_of c.args.scope.now) 0) x) (sym c.get.ensures) p.left)
 
 pub emit_value-requires-2-clause-form : goal.emit_value-requires-2-clause-form
 emit_value-requires-2-clause-form c =
-    let p = comparison c.args.scope.now c.args.cond.now c.in-Binary.a c.in-Binary.b c.in-Binary.op c.requires.form c.in-Binary.is in
-    more_registers c.args.scope.now (room c.args.scope.now 1) (256 - (c.free_register-left.result + 1)) c.get-2.result.now (omega arith) (subst (λ x. IsArithmetic c.args.scope.now (room c.args.scope.now 1) x) (sym c.get-2.ensures) p.right)
+    let p = comparison (names_of c.args.scope.now) c.args.cond.now c.in-Binary.a c.in-Binary.b c.in-Binary.op c.requires.form c.in-Binary.is in
+    more_registers (names_of c.args.scope.now) (room (names_of c.args.scope.now) 1) (256 - (c.free_register-left.result + 1)) c.get-2.result.now (omega arith) (subst (λ x. IsArithmetic (names_of c.args.scope.now) (room (names_of c.args.scope.now) 1) x) (sym c.get-2.ensures) p.right)
 
 pub emit_value-requires-2-clause-room : goal.emit_value-requires-2-clause-room
 emit_value-requires-2-clause-room c =
@@ -21,3 +23,13 @@ emit_value-requires-2-clause-room c =
     let left = ap expr_words c.get.ensures in
     let right = ap expr_words c.get-2.ensures in
     omega (arith, c.requires.room, length_extended _ _ _ c.in_ok-emit_value.ensures.items.constants)
+
+pub emit_value-requires-clause-stands : goal.emit_value-requires-clause-stands
+emit_value-requires-clause-stands c =
+    left_operand c.args.bindings.now c.args.scope.now c.args.cond.now c.in-Binary.a c.in-Binary.b c.get.result.now c.in-Binary.op c.in-Binary.is
+    c.get.ensures c.requires.stands
+
+pub emit_value-requires-2-clause-stands : goal.emit_value-requires-2-clause-stands
+emit_value-requires-2-clause-stands c =
+    right_operand c.args.bindings.now c.args.scope.now c.args.cond.now c.in-Binary.a c.in-Binary.b c.get-2.result.now c.in-Binary.op c.in-Binary.is
+    c.get-2.ensures c.requires.stands

@@ -1,5 +1,4 @@
 use Rattle.std.proofs.Common.{subst}
-use Rattle.emit_stat.specs.Correct.{Behaves}
 use Rattle.luau_cli.specs.Refusals.{IsReadingOf}
 use Rattle.luau_cli.proofs.Outcomes.{reported, answers_run, answers_refused}
 use Rattle.luau_cli.proofs.outcome.reply_to_script.Goals as goal
@@ -12,12 +11,12 @@ returns-in-Refused-clause-answers c =
 pub reply_to_run-requires : goal.reply_to_run-requires
 reply_to_run-requires c =
     let code = c.in_ok-code-in-Script.code in
-    let behaves = subst (λ b. Behaves b code.words.items code.constants.items) c.as_slice.ensures c.in_ok-code-in-Script.ensures in
+    let behaves = c.in_ok-code-in-Script.ensures in
     reported _ code c.args.turns c.in_ok-ran-in-Script.ran behaves c.in_ok-ran-in-Script.ensures
 
 pub returns-in_ok-ran-in-Script-clause-answers : goal.returns-in_ok-ran-in-Script-clause-answers
 returns-in_ok-ran-in-Script-clause-answers c =
     let code = c.in_ok-code-in-Script.code in
     let script = subst (λ r. IsReadingOf c.args.source.now r) c.in-Script.is c.in_ok-why.ensures.reading in
-    let behaves = subst (λ b. Behaves b code.words.items code.constants.items) c.as_slice.ensures c.in_ok-code-in-Script.ensures in
+    let behaves = c.in_ok-code-in-Script.ensures in
     answers_run c.args.source.now c.in-Script.tree code c.args.turns c.in_ok-ran-in-Script.ran c.reply_to_run.result script behaves c.in_ok-ran-in-Script.ensures c.reply_to_run.ensures.answers

@@ -1,6 +1,7 @@
 use Rattle.std.proofs.Common.{◌≡◌, ℕ, ◌-◌, ◌≤◌, List, length, take, drop, reverse, sym, ap, ◌∙◌, arith, length-drop}
 use Rattle.std.proofs.lemmas.List.{take-append-drop, reverse-append, length-reverse}
 use Rattle.std.proofs.Math.Seq.{drop-append_seam}
+use Rattle.emit_stat.proofs.StandingNames.{names_length}
 use Rattle.emit_stat.proofs.scope.Scope.forget.Goals as goal
 
 reverse-take : {A : Type 0} → (n : ℕ) (xs : List A) → n ≤ length (reverse xs) → reverse (take n xs) ≡ drop (length (reverse xs) - n) (reverse xs)
@@ -11,7 +12,9 @@ reverse-take n xs le =
 
 pub returns : goal.returns
 returns c =
-    let le : c.args.left ≤ length (reverse c.self.inside.names.items) = omega (arith, ap length c.self.view_is, c.requires) in
+    let locals = c.self.inside.locals.items in
+    let le : c.args.left ≤ length (reverse locals) = omega (arith, ap length c.self.view_is, names_length c.args.self.now, c.requires) in
     ap reverse c.truncate.ensures.items
-    ∙ reverse-take c.args.left c.self.inside.names.items le
+    ∙ reverse-take c.args.left locals le
     ∙ ap (λ v. drop (length v - c.args.left) v) c.self.view_is
+    ∙ ap (λ n. drop (n - c.args.left) c.args.self.now) (sym (names_length c.args.self.now))
