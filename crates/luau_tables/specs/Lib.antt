@@ -1,4 +1,7 @@
+pub mod Answers
 pub mod Causes
 pub mod Globals
+pub mod Own
 pub mod Part
 pub mod Rules
+pub mod Worlds

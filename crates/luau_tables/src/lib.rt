@@ -1,12 +1,14 @@
 //! Tables in the arena: reading, writing, walking; and the texts of values.
 #![tactic(auto)]
 
+mod answer;
 mod globals;
 mod plain;
 mod reading;
 mod refusal;
 mod writing;
 
+pub use answer::LibAnswer;
 pub use globals::{Globals, LibWorld, MetaNames};
 pub use plain::plain_into;
 pub use reading::{border, frozen, get, next};
