@@ -1,3 +1,4 @@
+pub mod OwnKept
 pub mod OwnTables
 pub mod PartKept
 pub mod Sameness
