@@ -84,7 +84,7 @@ running_on a b w more r s e h = subst (λ r. IfSome r (λ t. MayHold b w (value.
     by None h = h
     by (Some t) h = hold_on a b w (value.Thread t) more h
 
-own_on : (texts : List Bytes) (g : Globals) (a b : ArenaView) (w : Owner) → IsOwn texts g a w → Grows a b → IsOwned b → HasTexts texts b → objects_of b owner.Frozen ≡ objects_of a owner.Frozen → b.running ≡ a.running → IsOwn texts g b w
+pub own_on : (texts : List Bytes) (g : Globals) (a b : ArenaView) (w : Owner) → IsOwn texts g a w → Grows a b → IsOwned b → HasTexts texts b → objects_of b owner.Frozen ≡ objects_of a owner.Frozen → b.running ≡ a.running → IsOwn texts g b w
 own_on texts g a b w own more owned numbered shared running =
     record {
       script = own.script;
@@ -97,7 +97,7 @@ own_on texts g a b w own more owned numbered shared running =
     }
 
 -- a script is not nobody
-script_is : (w : Owner) → IsScript w → owner.Frozen ≢ w
+pub script_is : (w : Owner) → IsScript w → owner.Frozen ≢ w
 script_is owner.Frozen h e = absurd (elim h [ ])
 script_is (owner.Script n) h e = absurd (cc)
 
