@@ -6,3 +6,4 @@ pub mod PartKept
 pub mod Sameness
 pub mod TablesKept
 pub mod Texts
+pub mod WorldsKept
