@@ -154,7 +154,7 @@ unfolding table_at closure_at cell_at thread_at HasTable HasClosure HasCell HasT
 running_keeps a r h = record { tables = h.tables; closures = h.closures; cells = h.cells; threads = h.threads }
 
 -- nobody has objects in an arena without any
-none_of : (w : Owner) → objects_of no_arena w ≡ no_objects
+pub none_of : (w : Owner) → objects_of no_arena w ≡ no_objects
 none_of w = at_padded [] (slot w)
 
 pub empty_owned : IsOwned no_arena
