@@ -44,9 +44,15 @@ unfolding closure_at cell_at thread_at HasClosure
 first_owned =
     record {
       tables = λ t. each_table (λ x. MayBeTable law.first_arena (wide t.owner) x) (tt, tt) (tt, tt) t;
-      closures = λ f h. absurd (omega (arith, bare (λ o. f.place < length o.closures → ⊥) (λ l. absurd (omega (arith, l))) (λ l. absurd (omega (arith, l))) (wide f.owner) h));
+      closures = λ f h. absurd
+          (omega (
+            arith,
+            bare (λ o. f.place < length o.closures → ⊥) (λ l. absurd (omega (arith, l))) (λ l. absurd (omega (arith, l)))
+                (wide f.owner) h,
+          ));
       cells = λ c. bare (λ o. MayHold law.first_arena (wide c.owner) (get_or o.cells c.place Nil)) tt tt (wide c.owner);
-      threads = λ t. bare (λ o. MayBeThread law.first_arena (wide t.owner) (get_or o.threads t.place no_coroutine)) (tt, tt, tt) (tt, tt, tt) (wide t.owner);
+      threads = λ t. bare (λ o. MayBeThread law.first_arena (wide t.owner) (get_or o.threads t.place no_coroutine)) (tt, tt, tt) (tt, tt, tt)
+          (wide t.owner);
     }
 
 first_texts : (texts : List Bytes) → HasTexts texts law.first_arena
@@ -73,7 +79,8 @@ first_shared =
     two (suc zero) l = refl
     two (suc (suc i)) l = absurd (omega (arith, l))
 
-    there : (t : TableId) → wide t.owner ≡ owner.Frozen → t.place < length (objects_of law.first_arena (wide t.owner)).tables → (get_or (objects_of law.first_arena (wide t.owner)).tables t.place no_table).is_frozen ≡ true
+    there : (t : TableId) → wide t.owner ≡ owner.Frozen → t.place < length (objects_of law.first_arena (wide t.owner)).tables →
+        (get_or (objects_of law.first_arena (wide t.owner)).tables t.place no_table).is_frozen ≡ true
     there t e h =
         let is = ap (λ w. (objects_of law.first_arena w).tables) e ∙ ap (λ o. o.tables) (objects_first owner.Frozen) in
         ap (λ ts. (get_or ts t.place no_table).is_frozen) is ∙ two t.place (subst (λ ts. t.place < length ts) is h)
@@ -81,14 +88,16 @@ first_shared =
 -- the first two tables of nobody are there
 has_first : (t : TableId) → t.owner ≡ Frozen → t.place < 2 → HasTable law.first_arena t
 unfolding HasTable
-has_first t e l = subst (λ ts. t.place < length ts) (sym (ap (λ s. (objects_of law.first_arena (wide s)).tables) e ∙ ap (λ o. o.tables) (objects_first owner.Frozen))) l
+has_first t e l = subst (λ ts. t.place < length ts)
+    (sym (ap (λ s. (objects_of law.first_arena (wide s)).tables) e ∙ ap (λ o. o.tables) (objects_first owner.Frozen))) l
 
 first_globals : (texts : List Bytes) (g : Globals) → law.StartsWith texts g → HasGlobals texts g law.first_arena
 first_globals texts g h =
     record {
       table = has_first g.table (ap (λ (t : TableId). t.owner) h.table) (subst (λ (t : TableId). t.place < 2) (sym h.table) (omega arith));
       table_owner = ap (λ (t : TableId). t.owner) h.table;
-      string_meta = has_first g.string_meta (ap (λ (t : TableId). t.owner) h.string_meta) (subst (λ (t : TableId). t.place < 2) (sym h.string_meta) (omega arith));
+      string_meta = has_first g.string_meta (ap (λ (t : TableId). t.owner) h.string_meta)
+          (subst (λ (t : TableId). t.place < 2) (sym h.string_meta) (omega arith));
       string_meta_owner = ap (λ (t : TableId). t.owner) h.string_meta;
       names = h.names;
       paths = h.paths;

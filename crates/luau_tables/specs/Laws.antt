@@ -28,7 +28,8 @@ table_in texts g a w t = store.table_at (store_of texts g a w) (table_ref t)
 -- What is read of a table is what the part's table holds, and the script may use it.
 pub record ReadsPart (texts : List Bytes) (g : Globals) (a : ArenaView) (w : Owner) (t : TableId) : Type 0 where
   pub get : (key : Value) → MayUse texts a w key → model.get (table_in texts g a w t) (meant texts key) ≡ meant texts (rule.get (table_at a t) key)
-  pub next : (key : Value) → MayUse texts a w key → model.next_entry (table_in texts g a w t) (meant texts key) ≡ option_map (option_map (pair_of texts)) (rule.next (table_at a t) key)
+  pub next : (key : Value) → MayUse texts a w key →
+      model.next_entry (table_in texts g a w t) (meant texts key) ≡ option_map (option_map (pair_of texts)) (rule.next (table_at a t) key)
   pub border : model.border (table_in texts g a w t) ≡ rule.border (table_at a t)
   pub frozen : (table_in texts g a w t).frozen ≡ (table_at a t).is_frozen
   pub meta : (table_in texts g a w t).meta ≡ option_map table_ref (table_at a t).meta
