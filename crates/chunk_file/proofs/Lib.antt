@@ -1,1 +1,4 @@
 mod Examples
+mod Fields
+mod NumberFields
+mod Readers

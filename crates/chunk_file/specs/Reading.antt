@@ -56,8 +56,17 @@ read_flag (b ∷ bs) = if nat_eq b 0 then Read false bs else if nat_eq b 1 then 
 abbrev pub whole_in : (field : List ℕ) → ℤ → List ℕ → Found ℤ
 whole_in field z rest = if is_whole z then Read z rest else Wrong field
 
+-- With an eighth byte of 0 or 255 seven bytes may be such a number. No eighth byte makes one of the others.
+abbrev pub may_go_on : (seven : ℕ) → Bool
+may_go_on seven = nat_le seven (2 ^ 53) || nat_le (2 ^ 56 - 2 ^ 53) seven
+
+-- fewer than eight bytes
+abbrev pub cut_whole : List ℕ → Found ℤ
+cut_whole bs = if nat_lt (length bs) 7 || may_go_on (little_number 7 bs) then Ends else Wrong bs
+
 abbrev pub read_whole : List ℕ → Found ℤ
-read_whole bs = behind (read_bytes 8 bs) (λ eight rest. whole_in bs (cast_signed w64 (little_number 8 eight)) rest)
+read_whole bs =
+    if nat_le 8 (length bs) then whole_in bs (cast_signed w64 (little_number 8 (take 8 bs))) (drop 8 bs) else cut_whole bs
 
 -- ---- lists
 

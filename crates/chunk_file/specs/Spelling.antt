@@ -1,8 +1,9 @@
 -- The bytes that a chunk is spelled by. A chunk has one spelling.
-use Rattle.std.specs.Prelude.{ℕ, zero, suc, ◌+◌, ◌/◌, ◌%◌, ◌^◌, ◌<◌, Bool, true, false, nat_lt, List, [], ◌∷◌, ◌++◌, length, if◌then◌else◌}
+use Rattle.std.specs.Prelude.{◌≡◌, ℕ, zero, suc, ◌+◌, ◌/◌, ◌%◌, ◌^◌, ◌<◌, Bool, true, false, nat_lt, List, [], ◌∷◌, ◌++◌, length, if◌then◌else◌}
 use Rattle.std.specs.Int.{w64, cast_unsigned}
 use Rattle.std.specs.List.{flat_map, AllByRecursion}
 use Rattle.byteorder.specs.Endian.{little_bytes}
+use Rattle.whole_num.specs.Whole.{is_whole}
 use Rattle.op_words.specs.Chunks.{ChunkOf, ProtoOf}
 use Rattle.op_words.specs.declared.chunk.Const.{Const}
 use Rattle.op_words.specs.declared.chunk.Const.TheVariants.{Nil, False, True, Num, Str, Import}
@@ -66,14 +67,42 @@ abbrev pub IsCount : {A : Type 0} → List A → Type 0
 IsCount xs = length xs < most_number
 
 -- each count fits
-pub record IsSpelledProto (p : ProtoOf) : Type 0 where
+pub record HasCountsIn (p : ProtoOf) : Type 0 where
   pub code : IsCount p.code
   pub consts : IsCount p.consts
   pub children : IsCount p.children
 
 -- each count and each length of a string fits
-pub record IsSpelled (c : ChunkOf) : Type 0 where
+pub record HasCounts (c : ChunkOf) : Type 0 where
   pub strings : IsCount c.strings
   pub lengths : AllByRecursion (λ s. IsCount s) c.strings
   pub protos : IsCount c.protos
-  pub counts : AllByRecursion IsSpelledProto c.protos
+  pub counts : AllByRecursion HasCountsIn c.protos
+
+abbrev pub IsByte : ℕ → Type 0
+IsByte b = b < 256
+
+abbrev pub IsNumber : ℕ → Type 0
+IsNumber n = n < most_number
+
+-- the number that a constant names has its bits
+abbrev pub HasBits : Const → Type 0
+HasBits (Num z) = is_whole z ≡ true
+HasBits (Str i) = IsNumber i
+HasBits (Import path) = IsNumber path
+HasBits k = Unit {0}
+
+-- and so has each number in a prototype
+pub record HasBitsIn (p : ProtoOf) : Type 0 where
+  pub registers : IsByte p.registers
+  pub params : IsByte p.params
+  pub upvalues : IsByte p.upvalues
+  pub code : AllByRecursion IsNumber p.code
+  pub consts : AllByRecursion HasBits p.consts
+  pub children : AllByRecursion IsNumber p.children
+
+-- and in a chunk
+pub record IsSized (c : ChunkOf) : Type 0 where
+  pub strings : AllByRecursion (λ s. AllByRecursion IsByte s) c.strings
+  pub protos : AllByRecursion HasBitsIn c.protos
+  pub main : IsNumber c.main
