@@ -93,12 +93,12 @@ long : (xs ys : List ℕ) → length xs ≤ length (xs ++ ys)
 long [] ys = omega arith
 long (x ∷ xs) ys = omega (arith, long xs ys)
 
-take_drop : (n : ℕ) (xs : List ℕ) → xs ≡ take n xs ++ drop n xs
+pub take_drop : (n : ℕ) (xs : List ℕ) → xs ≡ take n xs ++ drop n xs
 take_drop zero xs = refl
 take_drop (suc n) [] = refl
 take_drop (suc n) (x ∷ xs) = ap (λ t. x ∷ t) (take_drop n xs)
 
-taken : (n : ℕ) (xs : List ℕ) → n ≤ length xs → length (take n xs) ≡ n
+pub taken : (n : ℕ) (xs : List ℕ) → n ≤ length xs → length (take n xs) ≡ n
 taken zero xs h = refl
 taken (suc n) [] h = absurd (omega (arith, h))
 taken (suc n) (x ∷ xs) h = ap suc (taken n xs (omega (arith, h)))

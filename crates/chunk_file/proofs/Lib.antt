@@ -2,3 +2,4 @@ mod Examples
 mod Fields
 mod NumberFields
 mod Readers
+mod WordFields

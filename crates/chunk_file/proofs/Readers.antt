@@ -31,6 +31,23 @@ pub record IsReader {A : Type 0} (read : List ℕ → Found A) (Is : A → List 
   pub ends : (bs : List ℕ) → AreBytes bs → read bs ≡ Ends → Begins Is bs
   pub example : Example Is
 
+-- the same of what is spelled alike
+pub converted : {A : Type 0} (read : List ℕ → Found A) (Is Is' : A → List ℕ → Type 0) → ((a : A) (bytes : List ℕ) → Is a bytes → Is' a bytes) → ((a : A) (bytes : List ℕ) → Is' a bytes → Is a bytes) → IsReader read Is → IsReader read Is'
+converted read Is Is' to from reads =
+    record {
+      forward = λ a front rest is. reads.forward a front rest (from a front is);
+      back = λ bs are a rest e. let r = reads.back bs are a rest e in record { front = r.front; is = to a r.front r.is; bytes = r.bytes };
+      ends = λ bs are e. let r = reads.ends bs are e in record {
+          value = r.value;
+          bytes = r.bytes;
+          is = to r.value r.bytes r.is;
+          more = r.more;
+          some = r.some;
+          begins = r.begins;
+        };
+      example = let r = reads.example in record { value = r.value; bytes = r.bytes; is = to r.value r.bytes r.is };
+    }
+
 -- ---- bytes
 
 pub bytes_behind : (front rest : List ℕ) → AreBytes (front ++ rest) → AreBytes rest

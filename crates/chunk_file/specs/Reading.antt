@@ -1,7 +1,6 @@
 -- What the bytes of a file are read as, field by field.
 use Rattle.std.specs.Prelude.{ℕ, zero, suc, ◌+◌, ◌-◌, ◌*◌, ◌/◌, ◌^◌, ℤ, Bool, true, false, not, ◌&&◌, ◌||◌, nat_eq, nat_lt, nat_le, List, [], ◌∷◌, length, take, drop, if◌then◌else◌}
-use Rattle.std.specs.Int.{w64, cast_signed}
-use Rattle.byteorder.specs.Endian.{little_number}
+use Rattle.std.specs.Int.{w32, w64, cast_signed, from_le_bytes}
 use Rattle.whole_num.specs.Whole.{is_whole}
 use Rattle.op_words.specs.Chunks.{ChunkOf, ProtoOf}
 use Rattle.op_words.specs.declared.chunk.Const.{Const}
@@ -46,7 +45,7 @@ abbrev pub read_bytes : ℕ → List ℕ → Found (List ℕ)
 read_bytes n bs = if nat_le n (length bs) then Read (take n bs) (drop n bs) else Ends
 
 abbrev pub read_word : List ℕ → Found ℕ
-read_word bs = behind (read_bytes 4 bs) (λ four rest. Read (little_number 4 four) rest)
+read_word bs = behind (read_bytes 4 bs) (λ four rest. Read (from_le_bytes w32 four) rest)
 
 abbrev pub read_flag : List ℕ → Found Bool
 read_flag [] = Ends
@@ -62,11 +61,11 @@ may_go_on seven = nat_le seven (2 ^ 53) || nat_le (2 ^ 56 - 2 ^ 53) seven
 
 -- fewer than eight bytes
 abbrev pub cut_whole : List ℕ → Found ℤ
-cut_whole bs = if nat_lt (length bs) 7 || may_go_on (little_number 7 bs) then Ends else Wrong bs
+cut_whole bs = if nat_lt (length bs) 7 || may_go_on (from_le_bytes w64 bs) then Ends else Wrong bs
 
 abbrev pub read_whole : List ℕ → Found ℤ
 read_whole bs =
-    if nat_le 8 (length bs) then whole_in bs (cast_signed w64 (little_number 8 (take 8 bs))) (drop 8 bs) else cut_whole bs
+    if nat_le 8 (length bs) then whole_in bs (cast_signed w64 (from_le_bytes w64 (take 8 bs))) (drop 8 bs) else cut_whole bs
 
 -- ---- lists
 

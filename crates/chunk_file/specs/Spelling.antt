@@ -1,8 +1,7 @@
 -- The bytes that a chunk is spelled by. A chunk has one spelling.
-use Rattle.std.specs.Prelude.{◌≡◌, ℕ, zero, suc, ◌+◌, ◌/◌, ◌%◌, ◌^◌, ◌<◌, Bool, true, false, nat_lt, List, [], ◌∷◌, ◌++◌, length, if◌then◌else◌}
-use Rattle.std.specs.Int.{w64, cast_unsigned}
+use Rattle.std.specs.Prelude.{◌≡◌, ℕ, ℤ, zero, suc, ◌+◌, ◌/◌, ◌%◌, ◌^◌, ◌<◌, Bool, true, false, nat_lt, List, [], ◌∷◌, ◌++◌, length, if◌then◌else◌}
+use Rattle.std.specs.Int.{w32, w64, cast_unsigned, to_le_bytes}
 use Rattle.std.specs.List.{flat_map, AllByRecursion}
-use Rattle.byteorder.specs.Endian.{little_bytes}
 use Rattle.whole_num.specs.Whole.{is_whole}
 use Rattle.op_words.specs.Chunks.{ChunkOf, ProtoOf}
 use Rattle.op_words.specs.declared.chunk.Const.{Const}
@@ -39,7 +38,11 @@ abbrev pub text : List ℕ → List ℕ
 text bytes = number (length bytes) ++ bytes
 
 abbrev pub word : ℕ → List ℕ
-word w = little_bytes 4 w
+word w = to_le_bytes w32 w
+
+-- a number in range, as two's complement
+abbrev pub whole : ℤ → List ℕ
+whole z = to_le_bytes w64 (cast_unsigned w64 z)
 
 abbrev pub flag : Bool → ℕ
 flag false = 0
@@ -50,7 +53,7 @@ abbrev pub constant : Const → List ℕ
 constant Nil = 0 ∷ []
 constant False = 1 ∷ []
 constant True = 2 ∷ []
-constant (Num z) = 3 ∷ little_bytes 8 (cast_unsigned w64 z)
+constant (Num z) = 3 ∷ whole z
 constant (Str i) = 4 ∷ number i
 constant (Import path) = 5 ∷ word path
 
