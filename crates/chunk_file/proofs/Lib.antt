@@ -1,3 +1,4 @@
+mod ConstantFields
 mod Examples
 mod Fields
 mod NumberFields
