@@ -1,6 +1,8 @@
+mod ChunkFields
 mod ConstantFields
 mod Examples
 mod Fields
+mod ListFields
 mod NumberFields
 mod Readers
 mod WordFields
