@@ -91,15 +91,15 @@ parts_to p bytes t =
         counts = record { code = t5.is.may.few; consts = t6.is.may.few; children = t7.is.may.few };
       };
       spelled = t.joined ∙ ap (λ f. f ++ t.back) t.is.one
-        ∙ ap (λ b. t.first ∷ b) (t2.joined ∙ ap (λ f. f ++ t2.back) t2.is.one)
-        ∙ ap (λ b. t.first ∷ t2.first ∷ b) (t3.joined ∙ ap (λ f. f ++ t3.back) t3.is.one)
-        ∙ ap (λ b. t.first ∷ t2.first ∷ t3.first ∷ b) (t4.joined ∙ ap (λ f. f ++ t4.back) t4.is)
-        ∙ ap (λ b. t.first ∷ t2.first ∷ t3.first ∷ flag t4.first ∷ b)
+          ∙ ap (λ b. t.first ∷ b) (t2.joined ∙ ap (λ f. f ++ t2.back) t2.is.one)
+          ∙ ap (λ b. t.first ∷ t2.first ∷ b) (t3.joined ∙ ap (λ f. f ++ t3.back) t3.is.one)
+          ∙ ap (λ b. t.first ∷ t2.first ∷ t3.first ∷ b) (t4.joined ∙ ap (λ f. f ++ t4.back) t4.is)
+          ∙ ap (λ b. t.first ∷ t2.first ∷ t3.first ∷ flag t4.first ∷ b)
           (t5.joined ∙ ap (λ f. f ++ t5.back) t5.is.spelled
           ∙ ap (λ b. counted word t5.first ++ b)
-            (t6.joined ∙ ap (λ f. f ++ t6.back) t6.is.spelled
-            ∙ ap (λ b. counted constant t6.first ++ b) (t7.joined ∙ ap (λ f. f ++ t7.back) t7.is.spelled ∙ ap (λ b. counted number t7.first ++ b) t7.then.none)))
-        ∙ spelled_parts t.first t2.first t3.first (flag t4.first) (counted word t5.first) (counted constant t6.first) (counted number t7.first);
+          (t6.joined ∙ ap (λ f. f ++ t6.back) t6.is.spelled
+          ∙ ap (λ b. counted constant t6.first ++ b) (t7.joined ∙ ap (λ f. f ++ t7.back) t7.is.spelled ∙ ap (λ b. counted number t7.first ++ b) t7.then.none)))
+          ∙ spelled_parts t.first t2.first t3.first (flag t4.first) (counted word t5.first) (counted constant t6.first) (counted number t7.first);
     })
 
 parts_from : (p : ProtoOf) (bytes : List ℕ) → Spelled MayProto proto p bytes → Parts p bytes

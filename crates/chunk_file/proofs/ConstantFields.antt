@@ -6,7 +6,7 @@ use Rattle.op_words.specs.declared.chunk.Const.TheVariants as const
 use Rattle.chunk_file.specs.Laws.{AreBytes}
 use Rattle.chunk_file.specs.Spelling.{IsByte, HasBits, constant}
 use Rattle.chunk_file.specs.Reading.{Found, Read, Ends, Wrong, behind, read_byte, read_named, read_constant, read_whole, read_number, read_word}
-use Rattle.chunk_file.proofs.Readers.{IsReadFrom, Begins, Example, IsReader}
+use Rattle.chunk_file.proofs.Readers.{IsReadFrom, Begins, Example, IsWrong, IsReader}
 use Rattle.chunk_file.proofs.NumberFields.{IsNumberOf, number_reads}
 use Rattle.chunk_file.proofs.WordFields.{IsWord, word_reads, IsWholeOf, whole_reads}
 
@@ -108,11 +108,39 @@ constant_ends (suc (suc (suc (suc (suc (suc n))))) ∷ bs) are e =
     let wrong : Wrong all ≡ Ends = sym (no_kind n all bs) ∙ e in
     absurd (cc)
 
+-- ---- what is wrong stays so
+
+module _ {A : Type 0} (read : List ℕ → Found A) (Is : A → List ℕ → Type 0) (reads : IsReader read Is) (name : A → Const) where
+  inner_wrong : (f : Found A) → IsWrong (behind f (λ a rest. Read (name a) rest)) → IsWrong f
+  inner_wrong Ends w = absurd w
+  inner_wrong (Read a rest) w = absurd w
+  inner_wrong (Wrong from) w = tt
+
+  outer_wrong : (f : Found A) → IsWrong f → IsWrong (behind f (λ a rest. Read (name a) rest))
+  outer_wrong Ends w = absurd w
+  outer_wrong (Read a rest) w = absurd w
+  outer_wrong (Wrong from) w = tt
+
+  named_wrong : (bs more : List ℕ) → AreBytes (bs ++ more) → IsWrong (behind (read bs) (λ a rest. Read (name a) rest)) → IsWrong (behind (read (bs ++ more)) (λ a rest. Read (name a) rest))
+  named_wrong bs more are w = outer_wrong (read (bs ++ more)) (reads.wrong bs more are (inner_wrong (read bs) w))
+
+constant_wrong : (bs more : List ℕ) → AreBytes (bs ++ more) → IsWrong (read_constant bs) → IsWrong (read_constant (bs ++ more))
+constant_wrong [] more are w = absurd w
+constant_wrong (zero ∷ bs) more are w = absurd w
+constant_wrong (suc zero ∷ bs) more are w = absurd w
+constant_wrong (suc (suc zero) ∷ bs) more are w = absurd w
+constant_wrong (suc (suc (suc zero)) ∷ bs) more are w = named_wrong read_whole IsWholeOf whole_reads const.Num bs more are.1 w
+constant_wrong (suc (suc (suc (suc zero))) ∷ bs) more are w = named_wrong read_number IsNumberOf number_reads const.Str bs more are.1 w
+constant_wrong (suc (suc (suc (suc (suc zero)))) ∷ bs) more are w = named_wrong read_word IsWord word_reads const.Import bs more are.1 w
+constant_wrong (suc (suc (suc (suc (suc (suc n))))) ∷ bs) more are w =
+    subst IsWrong (sym (no_kind n (suc (suc (suc (suc (suc (suc n))))) ∷ (bs ++ more)) (bs ++ more))) tt
+
 pub constant_reads : IsReader read_constant IsConstant
 constant_reads =
     record {
       forward = λ k front rest is. ap (λ bs. read_constant (bs ++ rest)) is.spelled ∙ constant_forward k rest is.bits;
       back = constant_back;
       ends = constant_ends;
+      wrong = constant_wrong;
       example = record { value = const.Nil; bytes = 0 ∷ []; is = record { bits = tt; spelled = refl } };
     }

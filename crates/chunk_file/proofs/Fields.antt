@@ -5,7 +5,7 @@ use Rattle.std.specs.List.{AllByRecursion}
 use Rattle.chunk_file.specs.Laws.{AreBytes}
 use Rattle.chunk_file.specs.Spelling.{IsByte, flag}
 use Rattle.chunk_file.specs.Reading.{Found, Read, Ends, Wrong, read_byte, read_flag, read_bytes}
-use Rattle.chunk_file.proofs.Readers.{IsReadFrom, Begins, Example, IsReader, bytes_behind, bytes_in_front}
+use Rattle.chunk_file.proofs.Readers.{IsReadFrom, Begins, Example, IsWrong, IsReader, bytes_behind, bytes_in_front}
 
 -- ---- a byte
 
@@ -19,6 +19,7 @@ byte_reads =
       forward = λ b front rest is. ap (λ f. read_byte (f ++ rest)) is.one;
       back = back;
       ends = ends;
+      wrong = wrong;
       example = record { value = 0; bytes = 0 ∷ []; is = record { byte = omega arith; one = refl } };
     }
   where
@@ -32,6 +33,10 @@ byte_reads =
     ends : (bs : List ℕ) → AreBytes bs → read_byte bs ≡ Ends → Begins IsOneByte bs
     ends [] are e = record { value = 0; bytes = 0 ∷ []; is = record { byte = omega arith; one = refl }; more = 0 ∷ []; some = λ e. absurd (cc); begins = refl }
     ends (c ∷ cs) are e = absurd (cc)
+
+    wrong : (bs more : List ℕ) → AreBytes (bs ++ more) → IsWrong (read_byte bs) → IsWrong (read_byte (bs ++ more))
+    wrong [] more are w = absurd w
+    wrong (c ∷ cs) more are w = absurd w
 
 -- ---- a flag
 
@@ -47,6 +52,7 @@ flag_reads =
       forward = forward;
       back = back;
       ends = ends;
+      wrong = wrong;
       example = record { value = false; bytes = 0 ∷ []; is = refl };
     }
   where
@@ -73,6 +79,15 @@ flag_reads =
     ends : (bs : List ℕ) → AreBytes bs → read_flag bs ≡ Ends → Begins IsFlag bs
     ends [] are e = record { value = false; bytes = 0 ∷ []; is = refl; more = 0 ∷ []; some = λ e. absurd (cc); begins = refl }
     ends (c ∷ cs) are e = absurd (never c cs (nat_eq c 0) (nat_eq c 1) e)
+
+    still : (z o : Bool) (c : ℕ) (cs more : List ℕ) → IsWrong (flagged z o c cs) → IsWrong (flagged z o c (cs ++ more))
+    still true o c cs more w = absurd w
+    still false true c cs more w = absurd w
+    still false false c cs more w = tt
+
+    wrong : (bs more : List ℕ) → AreBytes (bs ++ more) → IsWrong (read_flag bs) → IsWrong (read_flag (bs ++ more))
+    wrong [] more are w = absurd w
+    wrong (c ∷ cs) more are w = still (nat_eq c 0) (nat_eq c 1) c cs more w
 
 -- ---- so many bytes
 
@@ -172,11 +187,16 @@ module _ (count : ℕ) where
       some zero h e = absurd (omega (arith, h))
       some (suc n) h e = absurd (cc)
 
+  piece_never : (b : Bool) (bs : List ℕ) → IsWrong (piece_if b bs) → ⊥
+  piece_never true bs w = w
+  piece_never false bs w = w
+
   pub piece_reads : IsReader (read_bytes count) (IsPiece count)
   piece_reads =
       record {
         forward = piece_forward;
         back = λ bs are piece rest e. piece_back bs are piece rest (nat_le count (length bs)) refl e;
         ends = λ bs are e. piece_ends bs are (nat_le count (length bs)) refl e;
+        wrong = λ bs more are w. absurd (piece_never (nat_le count (length bs)) bs w);
         example = record { value = filling count; bytes = filling count; is = record { many = zeros_many count; are = zeros count; same = refl } };
       }

@@ -31,7 +31,7 @@ module _ {A : Type 0} (read : List ℕ → Found A) (ok : A → Type 0) (spell :
         many = ap suc inner.many;
         may = (t.is.may, inner.may);
         spelled = t.joined ∙ ap (λ f. f ++ t.back) t.is.spelled
-          ∙ ap (λ b. spell t.first ++ b) (t.then.joined ∙ ap (λ e. t.then.front ++ e) t.then.then.none ∙ append-nil t.then.front ∙ inner.spelled);
+            ∙ ap (λ b. spell t.first ++ b) (t.then.joined ∙ ap (λ e. t.then.front ++ e) t.then.then.none ∙ append-nil t.then.front ∙ inner.spelled);
       })
 
   are_times : (xs : List A) → AllByRecursion ok xs → Times (Spelled ok spell) (length xs) xs (flat_map spell xs)

@@ -4,7 +4,7 @@ use Rattle.std.proofs.lemmas.Bool.{eqb-true, eq-eqb, ne_eqb, ltb-true, lt-ltb, l
 use Rattle.chunk_file.specs.Laws.{AreBytes}
 use Rattle.chunk_file.specs.Spelling.{IsByte, IsNumber, number, number_within}
 use Rattle.chunk_file.specs.Reading.{Found, Read, Ends, Wrong, behind, number_from, read_number}
-use Rattle.chunk_file.proofs.Readers.{IsReadFrom, Begins, Example, IsReader}
+use Rattle.chunk_file.proofs.Readers.{IsReadFrom, Begins, Example, IsWrong, IsReader}
 
 -- a number of so many bytes and one more is below this
 abbrev limit_of : ℕ → ℕ
@@ -200,6 +200,48 @@ number_ends (suc k) first field (b ∷ bs) are e = by (λ h. number_ends k false
         (ap (λ t. last t (nat_lt b (limit_of (suc k)) && (first || not (nat_eq b 0))) b bs field (onward (suc k) (limit_of (suc k)) field b bs)) (sym (lt-ltb b 128 less)) ∙ e))
     by next (inr more) = further next (number_from (suc k) (limit_of k) false field bs) refl more (sym (read_more k first field b bs more) ∙ e)
 
+-- ---- what is wrong stays so, whatever follows
+
+last_wrong : (w : Bool) (b : ℕ) (bs more field field' : List ℕ) → IsWrong (if w then Read b bs else Wrong field) → IsWrong (if w then Read b (bs ++ more) else Wrong field')
+last_wrong true b bs more field field' h = absurd h
+last_wrong false b bs more field field' h = tt
+
+still_wrong : (b : ℕ) (f g : Found ℕ) → (IsWrong f → IsWrong g) → IsWrong (behind f (λ m rest. Read (b - 128 + 128 * m) rest)) → IsWrong (behind g (λ m rest. Read (b - 128 + 128 * m) rest))
+still_wrong b Ends g next h = absurd h
+still_wrong b (Read m left) g next h = absurd h
+still_wrong b (Wrong from) g next h = by g (next tt)
+  where
+    by : (g : Found ℕ) → IsWrong g → IsWrong (behind g (λ m rest. Read (b - 128 + 128 * m) rest))
+    by Ends h = absurd h
+    by (Read m left) h = absurd h
+    by (Wrong from) h = tt
+
+number_wrong : (k : ℕ) (first : Bool) (field field' bs more : List ℕ) → IsWrong (number_from (suc k) (limit_of k) first field bs) → IsWrong (number_from (suc k) (limit_of k) first field' (bs ++ more))
+number_wrong k first field field' [] more h = absurd h
+number_wrong zero first field field' (b ∷ bs) more h = by (cases_lt b 128)
+  where
+    w : Bool
+    w = nat_lt b 16 && (first || not (nat_eq b 0))
+
+    by : (b < 128) ⊎ (128 ≤ b) → IsWrong (number_from 1 16 first field' (b ∷ (bs ++ more)))
+    by (inl less) =
+        subst IsWrong (ap (λ t. last t w b (bs ++ more) field' (onward zero 16 field' b (bs ++ more))) (sym (lt-ltb b 128 less)))
+        (last_wrong w b bs more field field' (subst IsWrong (ap (λ t. last t w b bs field (onward zero 16 field b bs)) (lt-ltb b 128 less)) h))
+    by (inr more') =
+        subst IsWrong (ap (λ t. last t w b (bs ++ more) field' (onward zero 16 field' b (bs ++ more))) (sym (le-ltb b 128 more'))) tt
+number_wrong (suc k) first field field' (b ∷ bs) more h = by (number_wrong k false field field' bs more) (cases_lt b 128)
+  where
+    w : Bool
+    w = nat_lt b (limit_of (suc k)) && (first || not (nat_eq b 0))
+
+    by : (IsWrong (number_from (suc k) (limit_of k) false field bs) → IsWrong (number_from (suc k) (limit_of k) false field' (bs ++ more))) → (b < 128) ⊎ (128 ≤ b) → IsWrong (number_from (suc (suc k)) (limit_of (suc k)) first field' (b ∷ (bs ++ more)))
+    by next (inl less) =
+        subst IsWrong (ap (λ t. last t w b (bs ++ more) field' (onward (suc k) (limit_of (suc k)) field' b (bs ++ more))) (sym (lt-ltb b 128 less)))
+        (last_wrong w b bs more field field' (subst IsWrong (ap (λ t. last t w b bs field (onward (suc k) (limit_of (suc k)) field b bs)) (lt-ltb b 128 less)) h))
+    by next (inr over) =
+        subst IsWrong (sym (read_more k first field' b (bs ++ more) over))
+        (still_wrong b (number_from (suc k) (limit_of k) false field bs) (number_from (suc k) (limit_of k) false field' (bs ++ more)) next (subst IsWrong (read_more k first field b bs over) h))
+
 -- ---- numbers below 2 ^ 32
 
 pub record IsNumberOf (n : ℕ) (bytes : List ℕ) : Type 0 where
@@ -213,12 +255,13 @@ number_reads =
       forward = λ n front rest is. ap (λ bs. read_number (bs ++ rest)) is.spelled ∙ number_forward 4 true (number n ++ rest) n rest is.small (λ e. absurd (cc));
       back = λ bs are n rest e. let r = number_back 4 true bs bs are n rest e in record { front = r.front; is = record { small = r.is.small; spelled = r.is.spelled }; bytes = r.bytes };
       ends = λ bs are e. let r = number_ends 4 true bs bs are e in record {
-          value = r.value;
-          bytes = r.bytes;
-          is = record { small = r.is.small; spelled = r.is.spelled };
-          more = r.more;
-          some = r.some;
-          begins = r.begins;
-        };
+        value = r.value;
+        bytes = r.bytes;
+        is = record { small = r.is.small; spelled = r.is.spelled };
+        more = r.more;
+        some = r.some;
+        begins = r.begins;
+      };
+      wrong = λ bs more are w. number_wrong 4 true bs (bs ++ more) bs more w;
       example = record { value = 0; bytes = 0 ∷ []; is = record { small = omega arith; spelled = refl } };
     }

@@ -25,10 +25,16 @@ pub record Example {A : Type 0} (Is : A → List ℕ → Type 0) : Type 0 where
   pub bytes : List ℕ
   pub is : Is value bytes
 
+-- a wrong field was met
+abbrev pub IsWrong : {A : Type 0} → Found A → Type 0
+IsWrong (Wrong from) = Unit {0}
+IsWrong f = ⊥
+
 pub record IsReader {A : Type 0} (read : List ℕ → Found A) (Is : A → List ℕ → Type 0) : Type 0 where
   pub forward : (a : A) (front rest : List ℕ) → Is a front → read (front ++ rest) ≡ Read a rest
   pub back : (bs : List ℕ) → AreBytes bs → (a : A) (rest : List ℕ) → read bs ≡ Read a rest → IsReadFrom Is bs a rest
   pub ends : (bs : List ℕ) → AreBytes bs → read bs ≡ Ends → Begins Is bs
+  pub wrong : (bs more : List ℕ) → AreBytes (bs ++ more) → IsWrong (read bs) → IsWrong (read (bs ++ more))
   pub example : Example Is
 
 -- the same of what is spelled alike
@@ -38,13 +44,14 @@ converted read Is Is' to from reads =
       forward = λ a front rest is. reads.forward a front rest (from a front is);
       back = λ bs are a rest e. let r = reads.back bs are a rest e in record { front = r.front; is = to a r.front r.is; bytes = r.bytes };
       ends = λ bs are e. let r = reads.ends bs are e in record {
-          value = r.value;
-          bytes = r.bytes;
-          is = to r.value r.bytes r.is;
-          more = r.more;
-          some = r.some;
-          begins = r.begins;
-        };
+        value = r.value;
+        bytes = r.bytes;
+        is = to r.value r.bytes r.is;
+        more = r.more;
+        some = r.some;
+        begins = r.begins;
+      };
+      wrong = reads.wrong;
       example = let r = reads.example in record { value = r.value; bytes = r.bytes; is = to r.value r.bytes r.is };
     }
 
@@ -80,6 +87,7 @@ only_reads a =
       forward = λ b front rest is. ap (λ f. Read a (f ++ rest)) is.none ∙ ap (λ x. Read x rest) (sym is.value);
       back = λ bs are b rest e. let h = only_inner a b bs rest e in record { front = []; is = record { value = h.0; none = refl }; bytes = h.1 };
       ends = λ bs are e. absurd (cc);
+      wrong = λ bs more are w. absurd w;
       example = record { value = a; bytes = []; is = record { value = refl; none = refl } };
     }
 
@@ -140,17 +148,32 @@ module _ {A B : Type 0} (ra : List ℕ → Found A) (k : A → List ℕ → Foun
         begins = ap (λ m. first.front ++ m) second.begins ∙ sym (append_assoc first.front middle second.more) ∙ ap (λ bs. bs ++ second.more) (sym first.bytes);
       }
 
+  wrong_from : (bs more : List ℕ) → AreBytes (bs ++ more) → (f : Found A) → ra bs ≡ f → IsWrong (behind f k) → IsWrong (both (bs ++ more))
+  wrong_from bs more are Ends e w = absurd w
+  wrong_from bs more are (Wrong from) e w = by (ra (bs ++ more)) (reads.wrong bs more are (subst IsWrong (sym e) tt))
+    where
+      by : (f : Found A) → IsWrong f → IsWrong (behind f k)
+      by Ends w = absurd w
+      by (Read a rest) w = absurd w
+      by (Wrong from) w = tt
+  wrong_from bs more are (Read a middle) e w =
+      let first = reads.back bs (bytes_in_front bs more are) a middle e in
+      let split : bs ++ more ≡ first.front ++ (middle ++ more) = ap (λ x. x ++ more) first.bytes ∙ append_assoc first.front middle more in
+      let again : ra (bs ++ more) ≡ Read a (middle ++ more) = ap ra split ∙ reads.forward a first.front (middle ++ more) first.is in
+      subst (λ f. IsWrong (behind f k)) (sym again) ((then a).wrong middle more (bytes_behind first.front (middle ++ more) (subst AreBytes split are)) w)
+
   pub then_reads : IsReader (λ bs. behind (ra bs) k) (Then IsA IsB)
   then_reads =
       record {
         forward = both_forward;
         back = λ bs are b rest e. back_from bs are b rest (ra bs) refl e;
         ends = λ bs are e. ends_from bs are (ra bs) refl e;
+        wrong = λ bs more are w. wrong_from bs more are (ra bs) refl w;
         example = let first = reads.example in let second = (then first.value).example in record {
-            value = second.value;
-            bytes = first.bytes ++ second.bytes;
-            is = record { first = first.value; front = first.bytes; back = second.bytes; is = first.is; then = second.is; joined = refl };
-          };
+          value = second.value;
+          bytes = first.bytes ++ second.bytes;
+          is = record { first = first.value; front = first.bytes; back = second.bytes; is = first.is; then = second.is; joined = refl };
+        };
       }
 
 -- ---- so many, one after another

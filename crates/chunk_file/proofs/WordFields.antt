@@ -11,7 +11,7 @@ use Rattle.std.proofs.lemmas.Nat.{le_bytes_4, le_bytes_8, from_le_bytes-to_le_by
 use Rattle.chunk_file.specs.Laws.{AreBytes}
 use Rattle.chunk_file.specs.Spelling.{IsByte, IsNumber, word, whole}
 use Rattle.chunk_file.specs.Reading.{Found, Read, Ends, Wrong, read_bytes, read_word, read_whole, cut_whole, whole_in, may_go_on}
-use Rattle.chunk_file.proofs.Readers.{IsReadFrom, Begins, Example, IsReader, bytes_in_front, IsNothing, Then, converted, only_reads, then_reads}
+use Rattle.chunk_file.proofs.Readers.{IsReadFrom, Begins, Example, IsWrong, IsReader, bytes_in_front, IsNothing, Then, converted, only_reads, then_reads}
 use Rattle.chunk_file.proofs.Fields.{IsPiece, piece_reads, take_drop, taken, zeros}
 
 pub byte_in : (bs : List ℕ) → AreBytes bs → (i : ℕ) → get_or bs i 0 < 256
@@ -207,11 +207,41 @@ whole_ends (a ∷ b ∷ c ∷ d ∷ f ∷ g ∷ h ∷ i ∷ bs) are e =
     let v = cast_signed w64 (from_le_bytes w64 (take 8 all)) in
     absurd (whole_never (is_whole v) v all bs (ap (λ b. if b then whole_in all v bs else cut_whole all) (sym (le-leb 8 (length all) many)) ∙ e))
 
+-- ---- what is wrong stays so
+
+outside_positive : (n : ℕ) → 2 ^ 53 < n → n < 2 ^ 63 → is_whole (cast_signed w64 n) ≡ false
+outside_positive n large less = ap is_whole (to_z_pos w64 n less) ∙ lt-leb (2 ^ 53) n large
+
+outside_negative : (n : ℕ) → 2 ^ 63 ≤ n → n < 2 ^ 64 - 2 ^ 53 → is_whole (cast_signed w64 n) ≡ false
+outside_negative n large less =
+    let k = 2 ^ 64 - suc n in
+    let same : n ≡ 2 ^ 64 - suc k = omega (arith, less) in
+    let over : 2 ^ 53 - 1 < k = omega (arith, less) in
+    let low : k < 2 ^ 63 = omega (arith, large) in
+    ap (λ m. is_whole (cast_signed w64 m)) same ∙ ap is_whole (to_z-neg w64 k low) ∙ ap (λ b. b && true) (lt-leb (2 ^ 53 - 1) k over)
+
+in_wrong : (b : Bool) (v : ℤ) (left more field field' : List ℕ) → IsWrong (if b then Read v left else Wrong field) → b ≡ false
+in_wrong true v left more field field' w = absurd w
+in_wrong false v left more field field' w = refl
+
+wrong_in : (v : ℤ) (field rest : List ℕ) → is_whole v ≡ false → IsWrong (whole_in field v rest)
+wrong_in v field rest h = subst IsWrong (ap (λ b. if b then Read v rest else Wrong field) (sym h)) tt
+
+cut_wrong : (b : Bool) (bs : List ℕ) → IsWrong (cut b bs) → b ≡ false
+cut_wrong true bs w = absurd w
+cut_wrong false bs w = refl
+
+not_seven : (b c : Bool) (n : ℕ) → nat_le n (2 ^ 53) ≡ b → nat_le (2 ^ 56 - 2 ^ 53) n ≡ c → (b || c) ≡ false → (2 ^ 53 < n) × (n < 2 ^ 56 - 2 ^ 53)
+not_seven true c n e f h = absurd (cc)
+not_seven false true n e f h = absurd (cc)
+not_seven false false n e f h = (leb-false n (2 ^ 53) e, leb-false (2 ^ 56 - 2 ^ 53) n f)
+
 pub whole_reads : IsReader read_whole IsWholeOf
 whole_reads =
     record {
       forward = λ z front rest is. ap (λ bs. read_whole (bs ++ rest)) is.spelled ∙ whole_forward z rest is.within;
       back = λ bs are z rest e. whole_back bs are z rest (nat_le 8 (length bs)) refl e;
       ends = whole_ends;
+      wrong = ?;
       example = record { value = pos 0; bytes = whole (pos 0); is = record { within = refl; spelled = refl } };
     }

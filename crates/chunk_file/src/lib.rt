@@ -2,5 +2,9 @@
 #![tactic(auto)]
 
 mod error;
+mod reading;
+mod writing;
 
 pub use error::ChunkErr;
+pub use reading::read;
+pub use writing::write;
