@@ -96,7 +96,7 @@ pub record IsPiece (count : ℕ) (piece bytes : List ℕ) : Type 0 where
   pub are : AreBytes piece
   pub same : bytes ≡ piece
 
-take_all : (xs ys : List ℕ) → take (length xs) (xs ++ ys) ≡ xs
+pub take_all : (xs ys : List ℕ) → take (length xs) (xs ++ ys) ≡ xs
 take_all [] ys = refl
 take_all (x ∷ xs) ys = ap (λ t. x ∷ t) (take_all xs ys)
 
@@ -104,7 +104,7 @@ drop_all : (xs ys : List ℕ) → drop (length xs) (xs ++ ys) ≡ ys
 drop_all [] ys = refl
 drop_all (x ∷ xs) ys = drop_all xs ys
 
-long : (xs ys : List ℕ) → length xs ≤ length (xs ++ ys)
+pub long : (xs ys : List ℕ) → length xs ≤ length (xs ++ ys)
 long [] ys = omega arith
 long (x ∷ xs) ys = omega (arith, long xs ys)
 
