@@ -1,5 +1,6 @@
 mod ChunkFields
 mod ConstantFields
+mod ContentFields
 mod Examples
 mod Fields
 mod ListFields
