@@ -284,5 +284,6 @@ whole_reads =
       back = λ bs are z rest e. whole_back bs are z rest (nat_le 8 (length bs)) refl e;
       ends = whole_ends;
       wrong = whole_wrong;
+      bytes = λ z front is. subst AreBytes (sym is.spelled) (whole_bytes z);
       example = record { value = pos 0; bytes = whole (pos 0); is = record { within = refl; spelled = refl } };
     }
