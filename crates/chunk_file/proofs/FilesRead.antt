@@ -10,16 +10,16 @@ use Rattle.chunk_file.proofs.Readers.{IsReader, IsReadFrom, Begins, IsWrong, byt
 use Rattle.chunk_file.proofs.ListFields.{Spelled}
 use Rattle.chunk_file.proofs.ContentFields.{MayChunk, spelled_contents, contents_reads}
 
-abbrev body : ChunkOf → List ℕ
+abbrev pub body : ChunkOf → List ℕ
 body c = version ∷ spelled_contents c
 
-spelling_is : (c : ChunkOf) → spelling c ≡ magic ++ body c
+pub spelling_is : (c : ChunkOf) → spelling c ≡ magic ++ body c
 spelling_is c = refl
 
 may : (c : ChunkOf) (bytes : List ℕ) → Spells bytes c → MayChunk c
 may c bytes s = record { sized = s.sized; counts = s.counts }
 
-as_spelled : (c : ChunkOf) → MayChunk c → Spelled MayChunk spelled_contents c (spelled_contents c)
+pub as_spelled : (c : ChunkOf) → MayChunk c → Spelled MayChunk spelled_contents c (spelled_contents c)
 as_spelled c m = record { may = m; spelled = refl }
 
 -- ---- forward
@@ -30,7 +30,7 @@ magic_forward file (m ∷ ms) rest =
     ap (λ b. if b then read_magic file ms (ms ++ rest) else BadMagic (place file (m ∷ (ms ++ rest)))) (eq-eqb m m refl) ∙ magic_forward file ms rest
 
 -- a chunk's bytes, with others behind them
-file_forward : (file : List ℕ) (c : ChunkOf) (rest : List ℕ) → MayChunk c → file ≡ spelling c ++ rest → read_file file ≡ whole_file file c rest
+pub file_forward : (file : List ℕ) (c : ChunkOf) (rest : List ℕ) → MayChunk c → file ≡ spelling c ++ rest → read_file file ≡ whole_file file c rest
 unfolding read_file
 file_forward file c rest m e =
     ap (λ bs. read_magic file magic bs) e
@@ -49,7 +49,7 @@ behind_place (x ∷ xs) rest = omega (arith, behind_place xs rest, longer xs res
     longer [] rest = omega arith
     longer (x ∷ xs) rest = omega (arith, longer xs rest)
 
-trailing_if : (file : List ℕ) (c : ChunkOf) (more : List ℕ) → more ≢ [] → whole_file file c more ≡ Trailing (place file more)
+pub trailing_if : (file : List ℕ) (c : ChunkOf) (more : List ℕ) → more ≢ [] → whole_file file c more ≡ Trailing (place file more)
 trailing_if file c [] some = absurd (some refl)
 trailing_if file c (b ∷ bs) some = refl
 
@@ -103,7 +103,7 @@ has_body : (file : List ℕ) (a : Answer) → IsInner a → read_file file ≡ a
 unfolding read_file
 has_body file a inner e = let r = magic_back file magic file a inner e in body_back file r.rest a inner r.bytes_are r.answer
 
-body_bytes : (file rest : List ℕ) → AreBytes file → file ≡ magic ++ (version ∷ rest) → AreBytes rest
+pub body_bytes : (file rest : List ℕ) → AreBytes file → file ≡ magic ++ (version ∷ rest) → AreBytes rest
 body_bytes file rest are e = bytes_behind (magic ++ (version ∷ [])) rest (subst AreBytes e are)
 
 -- contents that were read, and what stands behind them

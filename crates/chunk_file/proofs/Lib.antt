@@ -3,6 +3,7 @@ mod ConstantFields
 mod ContentFields
 mod Examples
 mod Fields
+mod FilesCut
 mod FilesRead
 mod ListFields
 mod NumberFields
