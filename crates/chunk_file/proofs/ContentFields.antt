@@ -69,10 +69,10 @@ contents_to c bytes t =
         };
       };
       spelled = t.joined ∙ ap (λ f. f ++ t.back) t.is.spelled
-        ∙ ap (λ b. counted text t.first ++ b)
+          ∙ ap (λ b. counted text t.first ++ b)
           (t2.joined ∙ ap (λ f. f ++ t2.back) t2.is.spelled
           ∙ ap (λ b. counted proto t2.first ++ b) (t3.joined ∙ ap (λ f. f ++ t3.back) t3.is.spelled ∙ ap (λ b. number t3.first ++ b) t3.then.none ∙ append-nil (number t3.first)))
-        ∙ sym (append_assoc (counted text t.first) (counted proto t2.first) (number t3.first));
+          ∙ sym (append_assoc (counted text t.first) (counted proto t2.first) (number t3.first));
     })
 
 contents_from : (c : ChunkOf) (bytes : List ℕ) → Spelled MayChunk spelled_contents c bytes → Contents c bytes
