@@ -8,16 +8,28 @@ is_stale() {
     [ ! -x "$program" ] || [ -n "$(find "$here/crates" "$here/crates.txt" -name out -prune -o -type f -newer "$program" -print | head -n 1)" ]
 }
 
-# Each crate that the program stands on is proved once. The longest chain of them leads through the parser: up to there they
-# are proved one after another, each by all processors, and then the others side by side. The last step compiles.
+# Proves a crate, and those below it that are not proved yet.
+prove() {
+    for crate; do
+        (cd "$here/crates/$crate" && rt lib) || return 1
+    done
+}
+
+# Each crate that the program stands on is proved once. The longest chain of them leads through the syntax tree and the parser,
+# so the others are proved beside it. The last step compiles.
 build() {
-    (cd "$here/crates/expression_parser" && rt lib) &&
-        (cd "$here/crates/luau_cli" && rt all check --jobs "$(getconf _NPROCESSORS_ONLN)" && rt run -- run /dev/null)
+    prove syntax_tree || return 1
+    prove scopes & scopes=$!
+    prove node_numbers luau_lexer & numbers=$!
+    prove outside_io luau_vm emit_stat & machine=$!
+    prove expression_parser && wait $numbers && prove luau_parser
+    parser=$?
+    wait $scopes && wait $machine && [ $parser = 0 ] && (cd "$here/crates/luau_cli" && rt run -- run /dev/null)
 }
 
 if is_stale; then
     command -v rt >/dev/null || { echo "luau: the program is not built, and the kit's command rt is not on the path" >&2; exit 70; }
-    echo "luau: proving and building the program; from nothing this takes half an hour and more" >&2
+    echo "luau: proving and building the program; from nothing this takes a quarter of an hour and more" >&2
     build >&2 </dev/null
     [ -x "$program" ] || { echo "luau: the program was not built" >&2; exit 70; }
     touch "$program"

@@ -1,2 +1,3 @@
+pub mod Reading
 pub mod Registers
 pub mod Turns

@@ -1,21 +1,16 @@
 -- The machine's loop: what the rest of a run gives, the run gives.
-use Rattle.std.proofs.Common.{◌≡◌, refl, sym, ap, ◌∙◌, subst, ℕ, suc, ◌<◌, ℤ, pos, negsuc, Bool, true, false, List, [], ◌∷◌, ◌++◌, Option, Some, None, Ok, Err, arith}
+use Rattle.std.proofs.Common.{◌≡◌, refl, sym, ap, ◌∙◌, subst, ℕ, suc, ◌<◌, List, [], ◌∷◌, ◌++◌, Some, None, arith}
 use Rattle.std.proofs.lemmas.Grind.{flat_map-append}
 use Rattle.std.proofs.lemmas.List.{append-nil}
 use Rattle.op_words.specs.declared.insn.Insn.{Insn}
-use Rattle.op_words.specs.declared.insn.Insn.TheVariants.{PrepVarargs, LoadN, LoadK, Move as MoveInsn, GetGlobal, Call, Return, Jump, JumpBack, JumpIfEq, JumpIfLe, JumpIfLt, JumpIfNotEq, JumpIfNotLe, JumpIfNotLt, Add, Sub, Mul}
 use Rattle.op_words.specs.Decoding.{insn_at}
-use Rattle.built_values.specs.declared.value.Value.{Value}
-use Rattle.built_values.specs.declared.value.Value.TheVariants as value
 use Rattle.built_values.specs.declared.end.End.{End}
 use Rattle.built_values.specs.declared.end.End.TheVariants.{Stuck, Unfinished}
 use Rattle.built_values.specs.Runs.{Stamped, Report, Goes, Shows, Charges, Ends, after, run}
-use Rattle.built_values.specs.Operations.{Outcome}
 use Rattle.built_values.proofs.Together.{Comes}
 use Rattle.machine_meaning.specs.declared.code.Constant.{Constant}
-use Rattle.machine_meaning.specs.declared.code.Constant.TheVariants as constant
-use Rattle.machine_meaning.specs.States.{Registers, State, start}
-use Rattle.machine_meaning.specs.Steps.{Look, Step, load, fetch, give, shows, call, leave, jump, charge, chosen, branch, row, act, step}
+use Rattle.machine_meaning.specs.States.{State, start}
+use Rattle.machine_meaning.specs.Steps.{Look, Step, row, act, step}
 use Rattle.machine_meaning.specs.Runs.{MachineRun}
 use Rattle.machine_meaning.proofs.Onward.{LeadsOn, row_on}
 use Rattle.luau_vm.specs.declared.machine.Machine.{Machine}

@@ -121,6 +121,7 @@ impl Machine {
             Insn::Add { to, left, right } => Ok(self.add(to, left, right, here)),
             Insn::Sub { to, left, right } => Ok(self.sub(to, left, right, here)),
             Insn::Mul { to, left, right } => Ok(self.mul(to, left, right, here)),
+            _ => Ok(Moved::Ends(End::Stuck)),
         }
     }
 

@@ -6,10 +6,10 @@ ghost use Rattle.machine_meaning.specs.Steps.{Look};
 ghost use Rattle.machine_meaning.specs.Runs.{MachineRun};
 ghost use Rattle.luau_vm.specs.Shown.{Shows};
 
+use crate::instructions::Instructions;
 use crate::machine::{Here, Machine, Moved};
 use built_values::End;
 use machine_meaning::Code;
-use op_words::decode;
 use resource::OutOfMemory;
 use std::alloc::Global;
 
@@ -28,10 +28,11 @@ pub fn run(alloc: Global, code: &Code, turns: u32) -> Result<Ran, OutOfMemory>
     ensures { IfOk result (λ ran. (r : Report (List ℕ) Look)
         × MachineRun code.now.words.items code.now.constants.items turns r × Shows ran r) }
 {
+    let instructions = Instructions::read(alloc, &code.words)?;
     let mut machine = Machine::new(alloc);
     let mut left = turns;
     let mut place = 0;
-    while let Some((insn, next)) = decode(&code.words, place) {
+    while let Some((insn, next)) = instructions.at(place) {
         match machine.step(&code.constants, insn, Here { place, next })? {
             Moved::Goes(to) => place = to,
             Moved::Charges(to) => {

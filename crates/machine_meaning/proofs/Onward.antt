@@ -84,6 +84,7 @@ module _ (place next : ℕ) (lt : place < next) (regs : Registers) where
   row_on ks (Add to left right) = give_on _ to
   row_on ks (Sub to left right) = give_on _ to
   row_on ks (Mul to left right) = give_on _ to
+  row_on ks _ = tt
 
 -- ---- the words behind the place
 

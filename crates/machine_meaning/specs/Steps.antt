@@ -113,6 +113,8 @@ row ks (JumpIfNotLt left by right) place next regs =
 row ks (Add to left right) place next regs = give (sum (regs left) (regs right)) to next regs
 row ks (Sub to left right) place next regs = give (difference (regs left) (regs right)) to next regs
 row ks (Mul to left right) place next regs = give (product (regs left) (regs right)) to next regs
+-- the others have no rule yet, and no script that runs today has one in its code
+row ks _ place next regs = stuck
 
 -- the instruction that was read is done, where one was
 abbrev pub act : List Constant → Option (Insn × ℕ) → (place : ℕ) → Registers → Step

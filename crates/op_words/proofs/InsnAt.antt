@@ -5,10 +5,10 @@ use Rattle.std.specs.Int.{w16, cast_unsigned}
 use Rattle.std.proofs.Math.Facts.{Fits-lt-pow, Fits-of_z}
 use Rattle.op_words.specs.declared.insn.Insn.{Insn}
 use Rattle.op_words.specs.declared.encoding.Fields.{Fields}
-use Rattle.op_words.specs.declared.encoding.Fields.TheVariants.{Abc, Ad}
+use Rattle.op_words.specs.declared.encoding.Fields.TheVariants.{Abc, Ad, E}
 use Rattle.op_words.specs.declared.decoding.Parts.{Parts}
 use Rattle.op_words.specs.Encoding.{packed, row, word_of, encoded, FieldsFit, IsFit}
-use Rattle.op_words.specs.Decoding.{signed, ArePartsOf, parts_of, with_next, insn_of, insn_at}
+use Rattle.op_words.specs.Decoding.{signed, far_signed, ArePartsOf, parts_of, with_next, insn_of, insn_at}
 use Rattle.op_words.proofs.Rows.{same_parts, opcode_fits}
 use Rattle.op_words.proofs.Places.{first_get, insn_of-encoded}
 
@@ -22,6 +22,7 @@ parts_are word x f = record {
   b = omega arith;
   c = omega arith;
   d = refl;
+  e = refl;
   aux = refl;
 }
 
@@ -31,12 +32,21 @@ second_byte p word x parts = omega arith
 third_byte : (p : Parts) (word : ℕ) (x : Option ℕ) → ArePartsOf word x p → word / 2 ^ 24 % 2 ^ 8 ≡ p.c
 third_byte p word x parts = omega arith
 
+first_byte : (p : Parts) (word : ℕ) (x : Option ℕ) → ArePartsOf word x p → word / 2 ^ 8 % 2 ^ 8 ≡ p.a
+first_byte p word x parts = omega arith
+
+far_same : (a b c p q r : ℕ) → a ≡ p → b ≡ q → c ≡ r → far_signed a b c ≡ far_signed p q r
+far_same a b c p q r f g h = ap (λ n. far_signed n b c) f ∙ ap (λ n. far_signed p n c) g ∙ ap (far_signed p q) h
+
 pub parts_same : (word : ℕ) (x : Option ℕ) (p : Parts) → ArePartsOf word x p → parts_of word x ≡ p
 parts_same word x p parts =
+    let a = first_byte p word x parts in
     let b = second_byte p word x parts in
     let c = third_byte p word x parts in
-    same_parts p (word % 2 ^ 8) (word / 2 ^ 8 % 2 ^ 8) (word / 2 ^ 16 % 2 ^ 8) (word / 2 ^ 24 % 2 ^ 8) (signed (word / 2 ^ 16 % 2 ^ 8) (word / 2 ^ 24 % 2 ^ 8)) x (omega arith) (omega arith) b c
-    (ap (λ n. signed n (word / 2 ^ 24 % 2 ^ 8)) b ∙ ap (signed p.b) c ∙ sym parts.d)
+    let q = parts_of word x in
+    same_parts p q.opcode q.a q.b q.c q.d q.e x (omega arith) a b c
+    (ap (λ n. signed n q.c) b ∙ ap (signed p.b) c ∙ sym parts.d)
+    (far_same q.a q.b q.c p.a p.b p.c a b c ∙ sym parts.e)
     (sym parts.aux)
 
 -- ---- at a place
@@ -53,6 +63,7 @@ packed_fits o (Ad a d) f fit =
     let low : cast_unsigned w16 d < 2 ^ 16 = Fits-lt-pow (Fits-of_z fit.1) in
     let first = fit.0 in
     omega (arith, low, first)
+packed_fits o (E e) f fit = omega arith
 
 -- an instruction whose words stand at the place is read there
 pub insn_at-encoded : (code : List ℕ) (at : ℕ) (i : Insn) (rest : List ℕ) → IsFit i → drop at code ≡ encoded i ++ rest → insn_at code at ≡ Some (i, at + length (encoded i))

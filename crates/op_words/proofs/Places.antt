@@ -5,21 +5,24 @@ use Rattle.std.specs.Int.{w16}
 use Rattle.std.proofs.lemmas.List.{get_or-drop, length-drop, drop-drop}
 use Rattle.op_words.specs.declared.insn.Insn.{Insn}
 use Rattle.op_words.specs.declared.encoding.Fields.{Fields}
-use Rattle.op_words.specs.declared.encoding.Fields.TheVariants.{Abc, Ad}
+use Rattle.op_words.specs.declared.encoding.Fields.TheVariants.{Abc, Ad, E}
 use Rattle.op_words.specs.declared.decoding.Parts.{Parts}
-use Rattle.op_words.specs.Encoding.{packed, row, word_of, encoded, FieldsFit, IsFit}
+use Rattle.op_words.specs.Encoding.{packed, row, word_of, encoded, FieldsFit, IsFar, IsFit}
 use Rattle.op_words.specs.Decoding.{signed, ArePartsOf, insn_of, StandsAt}
-use Rattle.op_words.proofs.Packing.{narrow_unpacked, narrow_packed, wide_unpacked, wide_packed, signed_fits}
+use Rattle.op_words.proofs.Packing.{narrow_unpacked, narrow_packed, wide_unpacked, wide_packed, whole_unpacked, whole_packed, signed_fits, far_fits}
 use Rattle.op_words.proofs.Rows.{following, parts_with, same_parts, insn_of-parts, parts-insn_of, opcode_fits}
 
 -- the parts of a word are the fields that it was packed of
 unpacked : (word : ℕ) (x : Option ℕ) (p : Parts) (o : ℕ) (fields : Fields) (aux : Option ℕ) → ArePartsOf word x p → o < 2 ^ 8 → FieldsFit fields → packed o fields ≡ word → following aux x ≡ x → parts_with o fields aux p ≡ p
 unpacked word x p o (Abc a b c) aux parts f fit e n =
     let has = narrow_unpacked word x p o a b c parts f fit.0 fit.1 fit.2 e in
-    same_parts p o a b c p.d (following aux p.aux) has.opcode has.a has.b has.c refl (ap (following aux) parts.aux ∙ n ∙ sym parts.aux)
+    same_parts p o a b c p.d p.e (following aux p.aux) has.opcode has.a has.b has.c refl refl (ap (following aux) parts.aux ∙ n ∙ sym parts.aux)
 unpacked word x p o (Ad a d) aux parts f fit e n =
     let has = wide_unpacked word x p o a d parts f fit.0 fit.1 e in
-    same_parts p o a p.b p.c d (following aux p.aux) has.opcode has.a refl refl has.d (ap (following aux) parts.aux ∙ n ∙ sym parts.aux)
+    same_parts p o a p.b p.c d p.e (following aux p.aux) has.opcode has.a refl refl has.d refl (ap (following aux) parts.aux ∙ n ∙ sym parts.aux)
+unpacked word x p o (E e) aux parts f fit same n =
+    let has = whole_unpacked word x p o e parts f fit same in
+    same_parts p o p.a p.b p.c p.d e (following aux p.aux) has.opcode refl refl refl refl has.e (ap (following aux) parts.aux ∙ n ∙ sym parts.aux)
 
 -- the fields that are a word's parts are packed into it, and fit
 repacked : (word : ℕ) (x : Option ℕ) (p : Parts) (o : ℕ) (fields : Fields) (aux : Option ℕ) → ArePartsOf word x p → parts_with o fields aux p ≡ p → packed o fields ≡ word
@@ -32,6 +35,8 @@ repacked word x p o (Abc a b c) aux parts e =
     })
 repacked word x p o (Ad a d) aux parts e =
     wide_packed word x p o a d parts (record { opcode = ap (λ q. q.opcode) e; a = ap (λ q. q.a) e; d = ap (λ q. q.d) e })
+repacked word x p o (E n) aux parts e =
+    whole_packed word x p o n parts (record { opcode = ap (λ q. q.opcode) e; e = ap (λ q. q.e) e })
 
 fields_fit : (word : ℕ) (x : Option ℕ) (p : Parts) (o : ℕ) (fields : Fields) (aux : Option ℕ) → ArePartsOf word x p → parts_with o fields aux p ≡ p → FieldsFit fields
 fields_fit word x p o (Abc a b c) aux parts e =
@@ -43,6 +48,8 @@ fields_fit word x p o (Ad a d) aux parts e =
     let first = ap (λ q. q.a) e in
     let half : d ≡ signed p.b p.c = ap (λ q. q.d) e ∙ parts.d in
     (omega (arith, first), subst (λ z. FitsSigned w16 z) (sym half) (signed_fits p.b p.c parts.b parts.c))
+fields_fit word x p o (E n) aux parts e =
+    subst (λ z. IsFar z) (sym (ap (λ q. q.e) e ∙ parts.e)) (far_fits p.a p.b p.c parts.a parts.b parts.c)
 
 -- ---- the words behind the first
 
@@ -77,6 +84,7 @@ aux_spelled (Some x) (w ∷ ws) f e =
 aux_with : (o : ℕ) (fields : Fields) (aux : Option ℕ) (p : Parts) → (parts_with o fields aux p).aux ≡ following aux p.aux
 aux_with o (Abc a b c) aux p = refl
 aux_with o (Ad a d) aux p = refl
+aux_with o (E e) aux p = refl
 
 -- ---- in front
 

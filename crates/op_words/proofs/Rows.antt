@@ -8,7 +8,7 @@ use Rattle.std.proofs.lemmas.Bool.Decides.{Decides-int_eq}
 use Rattle.op_words.specs.declared.insn.Insn.{Insn}
 use Rattle.op_words.specs.declared.insn.Insn.TheVariants.{LoadN}
 use Rattle.op_words.specs.declared.encoding.Fields.{Fields}
-use Rattle.op_words.specs.declared.encoding.Fields.TheVariants.{Abc, Ad}
+use Rattle.op_words.specs.declared.encoding.Fields.TheVariants.{Abc, Ad, E}
 use Rattle.op_words.specs.declared.encoding.Row.{Row}
 use Rattle.op_words.specs.declared.decoding.Parts.{Parts}
 use Rattle.op_words.specs.Encoding.{row}
@@ -22,9 +22,11 @@ following (Some x) next = Some x
 -- parts with a row's fields, and otherwise those of `p`
 abbrev pub parts_with : (opcode : ℕ) → Fields → (aux : Option ℕ) → Parts → Parts
 parts_with opcode (Abc a b c) aux p =
-    record { opcode = opcode; a = a; b = b; c = c; d = p.d; aux = following aux p.aux }
+    record { opcode = opcode; a = a; b = b; c = c; d = p.d; e = p.e; aux = following aux p.aux }
 parts_with opcode (Ad a d) aux p =
-    record { opcode = opcode; a = a; b = p.b; c = p.c; d = d; aux = following aux p.aux }
+    record { opcode = opcode; a = a; b = p.b; c = p.c; d = d; e = p.e; aux = following aux p.aux }
+parts_with opcode (E e) aux p =
+    record { opcode = opcode; a = p.a; b = p.b; c = p.c; d = p.d; e = e; aux = following aux p.aux }
 
 -- the parts are those of the row
 abbrev pub HasParts : Row → Parts → Type 0
@@ -49,11 +51,12 @@ looked_up-none (r ∷ rs) p h =
 -- ---- the test of the parts
 
 -- parts are the same where their fields are
-pub same_parts : (p : Parts) (o a b c : ℕ) (d : ℤ) (x : Option ℕ) → o ≡ p.opcode → a ≡ p.a → b ≡ p.b → c ≡ p.c → d ≡ p.d → x ≡ p.aux → let q : Parts = record { opcode = o; a = a; b = b; c = c; d = d; aux = x } in q ≡ p
-same_parts p o a b c d x e f g h i j =
-    let made : (o a b c : ℕ) → ℤ → Option ℕ → Parts = λ o a b c d x. record { opcode = o; a = a; b = b; c = c; d = d; aux = x } in
-    ap (λ n. made n a b c d x) e ∙ ap (λ n. made p.opcode n b c d x) f ∙ ap (λ n. made p.opcode p.a n c d x) g
-    ∙ ap (λ n. made p.opcode p.a p.b n d x) h ∙ ap (λ n. made p.opcode p.a p.b p.c n x) i ∙ ap (made p.opcode p.a p.b p.c p.d) j
+pub same_parts : (p : Parts) (o a b c : ℕ) (d e : ℤ) (x : Option ℕ) → o ≡ p.opcode → a ≡ p.a → b ≡ p.b → c ≡ p.c → d ≡ p.d → e ≡ p.e → x ≡ p.aux → let q : Parts = record { opcode = o; a = a; b = b; c = c; d = d; e = e; aux = x } in q ≡ p
+same_parts p o a b c d e x f g h i j k l =
+    let made : (o a b c : ℕ) → (d e : ℤ) → Option ℕ → Parts = λ o a b c d e x. record { opcode = o; a = a; b = b; c = c; d = d; e = e; aux = x } in
+    ap (λ n. made n a b c d e x) f ∙ ap (λ n. made p.opcode n b c d e x) g ∙ ap (λ n. made p.opcode p.a n c d e x) h
+    ∙ ap (λ n. made p.opcode p.a p.b n d e x) i ∙ ap (λ n. made p.opcode p.a p.b p.c n e x) j
+    ∙ ap (λ n. made p.opcode p.a p.b p.c p.d n x) k ∙ ap (made p.opcode p.a p.b p.c p.d p.e) l
 
 followed_same : (aux next : Option ℕ) → is_followed aux next ≡ true → following aux next ≡ next
 followed_same None next t = refl
@@ -70,16 +73,20 @@ tested_same : (o : ℕ) (fields : Fields) (aux : Option ℕ) (p : Parts) → o �
 tested_same o (Abc a b c) aux p e t f =
     let h = and_parts (nat_eq a p.a) (nat_eq b p.b && nat_eq c p.c) t in
     let k = and_parts (nat_eq b p.b) (nat_eq c p.c) h.1 in
-    same_parts p o a b c p.d (following aux p.aux) e (eqb-true a p.a h.0) (eqb-true b p.b k.0) (eqb-true c p.c k.1) refl f
+    same_parts p o a b c p.d p.e (following aux p.aux) e (eqb-true a p.a h.0) (eqb-true b p.b k.0) (eqb-true c p.c k.1) refl refl f
 tested_same o (Ad a d) aux p e t f =
     let h = and_parts (nat_eq a p.a) (int_eq d p.d) t in
-    same_parts p o a p.b p.c d (following aux p.aux) e (eqb-true a p.a h.0) refl refl ((Decides-int_eq d p.d).0 h.1) f
+    same_parts p o a p.b p.c d p.e (following aux p.aux) e (eqb-true a p.a h.0) refl refl ((Decides-int_eq d p.d).0 h.1) refl f
+tested_same o (E n) aux p e t f =
+    same_parts p o p.a p.b p.c p.d n (following aux p.aux) e refl refl refl refl ((Decides-int_eq n p.e).0 t) f
 
 same_tested : (o : ℕ) (fields : Fields) (aux : Option ℕ) (p : Parts) → parts_with o fields aux p ≡ p → nat_eq o p.opcode && (has_fields fields p && is_followed aux p.aux) ≡ true
 same_tested o (Abc a b c) aux p e =
     and_from _ _ (eq-eqb o p.opcode (ap (λ q. q.opcode) e)) (and_from _ _ (and_from _ _ (eq-eqb a p.a (ap (λ q. q.a) e)) (and_from _ _ (eq-eqb b p.b (ap (λ q. q.b) e)) (eq-eqb c p.c (ap (λ q. q.c) e)))) (same_followed aux p.aux (ap (λ q. q.aux) e)))
 same_tested o (Ad a d) aux p e =
     and_from _ _ (eq-eqb o p.opcode (ap (λ q. q.opcode) e)) (and_from _ _ (and_from _ _ (eq-eqb a p.a (ap (λ q. q.a) e)) ((Decides-int_eq d p.d).1 (ap (λ q. q.d) e))) (same_followed aux p.aux (ap (λ q. q.aux) e)))
+same_tested o (E n) aux p e =
+    and_from _ _ (eq-eqb o p.opcode (ap (λ q. q.opcode) e)) (and_from _ _ ((Decides-int_eq n p.e).1 (ap (λ q. q.e) e)) (same_followed aux p.aux (ap (λ q. q.aux) e)))
 
 has_parts-same : (r : Row) (p : Parts) → has_parts r p ≡ true → HasParts r p
 has_parts-same r p t =

@@ -1,2 +1,3 @@
-pub mod Encoding
+pub mod Chunks
 pub mod Decoding
+pub mod Encoding

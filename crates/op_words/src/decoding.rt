@@ -3,7 +3,7 @@
 ghost use Rattle.std.specs.Prelude.{◌≡◌, ◌+◌, ◌<◌, ◌↔◌, List, ℕ, ◌++◌, length, drop, Some, IsNone, IfSome, OnSome, slice_get};
 ghost use Rattle.op_words.specs.declared.insn.Insn.{Insn};
 ghost use Rattle.op_words.specs.Encoding.{encoded, IsFit};
-ghost use Rattle.op_words.specs.Decoding.{insn_at, insn_of, named, has_parts, has_fields, is_followed, ArePartsOf, StandsAt};
+ghost use Rattle.op_words.specs.Decoding.{insn_at, insn_of, named, has_parts, has_fields, is_followed, ArePartsOf, StandsAt, far_signed};
 
 use crate::encoding::{Fields, Row};
 use crate::insn::Insn;
@@ -40,6 +40,8 @@ pub struct Parts {
     pub c: u8,
     /// B and C as one signed number.
     pub d: i16,
+    /// A, B and C as one signed number.
+    pub e: i32,
     pub aux: Option<u32>,
 }
 
@@ -49,12 +51,14 @@ impl Parts {
     {
         let [opcode, a, b, c] = word.to_le_bytes();
         let d = i16::from_le_bytes([b, c]);
+        let e = far_signed(a, b, c);
         Parts {
             opcode,
             a,
             b,
             c,
             d,
+            e,
             aux,
         }
     }
@@ -73,13 +77,71 @@ impl Parts {
     fn named(&self) -> Option<Insn>
         ensures { result ≡ named self.now }
     {
-        let Parts { a, b, c, d, .. } = *self;
+        let Parts { a, b, c, d, e, .. } = *self;
         let x = self.aux.unwrap_or(0);
         match self.opcode {
+            0 => Some(Insn::Nop { turns: e }),
+            1 => Some(Insn::LoadNil { to: a }),
+            2 => Some(Insn::LoadB {
+                to: a,
+                value: b,
+                skip: c,
+            }),
             3 => Some(Insn::LoadN { to: a, value: d }),
             4 => Some(Insn::LoadK { to: a, constant: d }),
             5 => Some(Insn::Move { to: a, from: b }),
             6 => Some(Insn::GetGlobal { to: a, constant: x }),
+            7 => Some(Insn::SetGlobal {
+                from: a,
+                constant: x,
+            }),
+            8 => Some(Insn::GetUpvalue { to: a, upvalue: b }),
+            9 => Some(Insn::SetUpvalue {
+                from: a,
+                upvalue: b,
+            }),
+            10 => Some(Insn::CloseUpvalues { from: a }),
+            11 => Some(Insn::GetImport {
+                to: a,
+                constant: d,
+                path: x,
+            }),
+            12 => Some(Insn::GetTable {
+                to: a,
+                table: b,
+                key: c,
+            }),
+            13 => Some(Insn::SetTable {
+                from: a,
+                table: b,
+                key: c,
+            }),
+            14 => Some(Insn::GetTableKS {
+                to: a,
+                table: b,
+                constant: x,
+            }),
+            15 => Some(Insn::SetTableKS {
+                from: a,
+                table: b,
+                constant: x,
+            }),
+            16 => Some(Insn::GetTableN {
+                to: a,
+                table: b,
+                index: c,
+            }),
+            17 => Some(Insn::SetTableN {
+                from: a,
+                table: b,
+                index: c,
+            }),
+            18 => Some(Insn::NewClosure { to: a, child: d }),
+            19 => Some(Insn::NameCall {
+                base: a,
+                object: b,
+                constant: x,
+            }),
             20 => Some(Insn::Call {
                 base: a,
                 arguments: b,
@@ -88,6 +150,8 @@ impl Parts {
             21 => Some(Insn::Return { base: a, values: b }),
             22 => Some(Insn::Jump { by: d }),
             23 => Some(Insn::JumpBack { by: d }),
+            24 => Some(Insn::JumpIf { value: a, by: d }),
+            25 => Some(Insn::JumpIfNot { value: a, by: d }),
             26 => Some(Insn::JumpIfEq {
                 left: a,
                 by: d,
@@ -133,7 +197,160 @@ impl Parts {
                 left: b,
                 right: c,
             }),
+            35 => Some(Insn::Div {
+                to: a,
+                left: b,
+                right: c,
+            }),
+            36 => Some(Insn::Mod {
+                to: a,
+                left: b,
+                right: c,
+            }),
+            37 => Some(Insn::Pow {
+                to: a,
+                left: b,
+                right: c,
+            }),
+            38 => Some(Insn::Idiv {
+                to: a,
+                left: b,
+                right: c,
+            }),
+            39 => Some(Insn::AddK {
+                to: a,
+                left: b,
+                constant: c,
+            }),
+            40 => Some(Insn::SubK {
+                to: a,
+                left: b,
+                constant: c,
+            }),
+            41 => Some(Insn::MulK {
+                to: a,
+                left: b,
+                constant: c,
+            }),
+            42 => Some(Insn::DivK {
+                to: a,
+                left: b,
+                constant: c,
+            }),
+            43 => Some(Insn::ModK {
+                to: a,
+                left: b,
+                constant: c,
+            }),
+            44 => Some(Insn::PowK {
+                to: a,
+                left: b,
+                constant: c,
+            }),
+            45 => Some(Insn::IdivK {
+                to: a,
+                left: b,
+                constant: c,
+            }),
+            46 => Some(Insn::SubRK {
+                to: a,
+                constant: b,
+                right: c,
+            }),
+            47 => Some(Insn::DivRK {
+                to: a,
+                constant: b,
+                right: c,
+            }),
+            48 => Some(Insn::And {
+                to: a,
+                left: b,
+                right: c,
+            }),
+            49 => Some(Insn::Or {
+                to: a,
+                left: b,
+                right: c,
+            }),
+            50 => Some(Insn::AndK {
+                to: a,
+                left: b,
+                constant: c,
+            }),
+            51 => Some(Insn::OrK {
+                to: a,
+                left: b,
+                constant: c,
+            }),
+            52 => Some(Insn::Concat {
+                to: a,
+                first: b,
+                last: c,
+            }),
+            53 => Some(Insn::Not { to: a, operand: b }),
+            54 => Some(Insn::Minus { to: a, operand: b }),
+            55 => Some(Insn::Length { to: a, operand: b }),
+            56 => Some(Insn::NewTable { to: a }),
+            57 => Some(Insn::SetList {
+                table: a,
+                from: b,
+                count: c,
+                key: x,
+            }),
+            58 => Some(Insn::ForNPrep { base: a, by: d }),
+            59 => Some(Insn::ForNLoop { base: a, by: d }),
+            60 => Some(Insn::ForGPrep { base: a, by: d }),
+            61 => Some(Insn::ForGLoop {
+                base: a,
+                by: d,
+                variables: x,
+            }),
+            62 => Some(Insn::GetVarargs { base: a, values: b }),
             63 => Some(Insn::PrepVarargs { parameters: a }),
+            64 => Some(Insn::Capture { kind: a, from: b }),
+            65 => Some(Insn::FastCall {
+                builtin: a,
+                skip: c,
+            }),
+            66 => Some(Insn::FastCall1 {
+                builtin: a,
+                argument: b,
+                skip: c,
+            }),
+            67 => Some(Insn::FastCall2 {
+                builtin: a,
+                first: b,
+                skip: c,
+                second: x,
+            }),
+            68 => Some(Insn::FastCall2K {
+                builtin: a,
+                first: b,
+                skip: c,
+                constant: x,
+            }),
+            69 => Some(Insn::JumpX { by: e }),
+            70 => Some(Insn::LoadKX { to: a, constant: x }),
+            71 => Some(Insn::JumpXEqKNil {
+                value: a,
+                by: d,
+                test: x,
+            }),
+            72 => Some(Insn::JumpXEqKB {
+                value: a,
+                by: d,
+                test: x,
+            }),
+            73 => Some(Insn::JumpXEqKN {
+                value: a,
+                by: d,
+                test: x,
+            }),
+            74 => Some(Insn::JumpXEqKS {
+                value: a,
+                by: d,
+                test: x,
+            }),
             _ => None,
         }
     }
@@ -155,6 +372,7 @@ impl Fields {
         match *self {
             Fields::Abc(a, b, c) => a == parts.a && b == parts.b && c == parts.c,
             Fields::Ad(a, d) => a == parts.a && d == parts.d,
+            Fields::E(e) => e == parts.e,
         }
     }
 }
@@ -166,5 +384,17 @@ fn is_followed(aux: Option<u32>, following: Option<u32>) -> bool
         (None, _) => true,
         (Some(x), Some(y)) => x == y,
         (Some(_), None) => false,
+    }
+}
+
+// The signed number of three bytes, the lowest first.
+fn far_signed(a: u8, b: u8, c: u8) -> i32
+    ensures { result ≡ far_signed a b c }
+{
+    let number = a as i32 + 256 * b as i32 + 65_536 * c as i32;
+    if number < 8_388_608 {
+        number
+    } else {
+        number - 16_777_216
     }
 }

@@ -6,10 +6,12 @@
 //! instructions: an instruction stands where its own row has the word's parts.
 #![tactic(auto)]
 
+mod chunk;
 mod decoding;
 mod encoding;
 mod insn;
 
+pub use chunk::{Chunk, Const, Proto};
 pub use decoding::decode;
 pub use encoding::{Words, encode};
 pub use insn::Insn;

@@ -1,0 +1,11 @@
+mod ChunkFields
+mod ConstantFields
+mod ContentFields
+mod Examples
+mod Fields
+mod FilesCut
+mod FilesRead
+mod ListFields
+mod NumberFields
+mod Readers
+mod WordFields

@@ -1,0 +1,12 @@
+//! Chunks as bytes of a file.
+#![tactic(auto)]
+
+mod error;
+mod laws;
+mod reading;
+mod writing;
+
+pub use error::ChunkErr;
+pub use laws::{one_spelling, reads_spellings};
+pub use reading::read;
+pub use writing::write;
