@@ -50,6 +50,9 @@ nil_used w = (tt, tt)
 pub used_or_nil : (w : LibWorld) (args : List Value) (i : ℕ) → AllByRecursion (MayUseIn w) args → MayUseIn w (slice_index_or args i Nil)
 used_or_nil w args i h = each_or (MayUseIn w) args i Nil h (nil_used w)
 
+pub used_given : (w : LibWorld) (args : List Value) (i : ℕ) (v : Value) → AllByRecursion (MayUseIn w) args → v ≡ slice_index_or args i Nil → MayUseIn w v
+used_given w args i v h e = subst (MayUseIn w) (sym e) (used_or_nil w args i h)
+
 -- ---- values
 
 -- the row gives these values in the store behind the call

@@ -1,1 +1,3 @@
 pub mod RawRows
+pub mod SetRows
+pub mod WalkRows

@@ -1,0 +1,3 @@
+pub mod MetaGiven
+pub mod Numbers
+pub mod Places

@@ -2,4 +2,8 @@
 #![tactic(auto)]
 
 mod kinds;
+mod metatable;
+mod raise;
 mod raw;
+mod select;
+mod walk;
