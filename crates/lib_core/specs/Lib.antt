@@ -1,3 +1,4 @@
+pub mod Asking
 pub mod MetaGiven
 pub mod Numbers
 pub mod Places

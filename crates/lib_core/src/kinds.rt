@@ -11,7 +11,7 @@ ghost use Rattle.value_model.specs.Arguments as row;
 ghost use Rattle.value_model.specs.declared.builtin.Builtin.TheVariants as builtin;
 ghost use Rattle.luau_tables.specs.Own.{HasText};
 ghost use Rattle.whole_num.specs.NumberTexts.{number_of};
-ghost use Rattle.lib_core.specs.Numbers.{GivesNumber, based_number};
+ghost use Rattle.lib_core.specs.Numbers.{GivesNumber, IsRadix, based_number};
 
 use byte_text::Interner;
 use lib_arguments::{
@@ -21,7 +21,7 @@ use luau_tables::LibWorld;
 use resource::OutOfMemory;
 use std::alloc::Global;
 use value_model::{Builtin, Value, type_name};
-use whole_num::{Read, Stop, print_into, read_with_base};
+use whole_num::{Read, Stop, Whole, print_into, read_with_base};
 
 pub(crate) fn kind_name(
     f: Builtin,
@@ -74,16 +74,28 @@ fn based(
     requires v { MayUseIn world.now v.now }
     ensures { Runs world.now world.now results.old.items results.new.items result (row.number_from builtin.Tonumber 1 (meant world.now.names base.now) (core.to_number_based (store_in world.now) (meant world.now.names v.now))) }
 {
-    let radix = match number_from(Builtin::Tonumber, 1, &world.names, base) {
-        Ok(radix) => radix.get(),
+    let number = match number_from(Builtin::Tonumber, 1, &world.names, base) {
+        Ok(number) => number,
         Err(e) => return Err(e),
     };
-    if radix < 2 || 36 < radix {
-        return Err(out_of_range(Builtin::Tonumber, 1));
+    match radix(number) {
+        Some(radix) => match read_in(alloc, radix, &world.names, v) {
+            Ok(read) => give_number(read, results),
+            Err(OutOfMemory) => Err(Ending::OutOfMemory),
+        },
+        None => Err(out_of_range(Builtin::Tonumber, 1)),
     }
-    match read_in(alloc, radix as u32, &world.names, v) {
-        Ok(read) => give_number(read, results),
-        Err(OutOfMemory) => Err(Ending::OutOfMemory),
+}
+
+// A base: a number from 2 to 36.
+fn radix(number: Whole) -> Option<u32>
+    ensures { IsRadix number result }
+{
+    let number = number.get();
+    if 2 <= number && number <= 36 {
+        Some(number as u32)
+    } else {
+        None
     }
 }
 

@@ -6,4 +6,5 @@ mod metatable;
 mod raise;
 mod raw;
 mod select;
+mod texts;
 mod walk;

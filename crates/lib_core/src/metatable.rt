@@ -12,6 +12,7 @@ ghost use Rattle.value_model.specs.Parts.{bytes_at, table_ref};
 ghost use Rattle.value_model.specs.Values.{Bytes};
 ghost use Rattle.value_model.specs.declared.value.Value.TheVariants.{Table};
 ghost use Rattle.lib_arguments.specs.Checks.{Checks};
+ghost use Rattle.value_arena.specs.Tables.{is_nil};
 ghost use Rattle.lib_core.specs.MetaGiven.{meta_row};
 
 use byte_text::StrId;
@@ -150,5 +151,13 @@ fn is_protected(world: &LibWorld, t: TableId) -> bool
     requires table { MayUseIn world.now (Table t) }
     ensures { result ≡ core.is_protected (store_in world.now) (table_ref t) }
 {
-    !matches!(hidden_by(world, world.arena.table(t).meta()), Value::Nil)
+    let hidden = hidden_by(world, world.arena.table(t).meta());
+    !is_nil(&hidden)
+}
+
+// Whether a value is nil.
+fn is_nil(v: &Value) -> bool
+    ensures { result ≡ is_nil v.now }
+{
+    matches!(v, Value::Nil)
 }

@@ -8,7 +8,7 @@ ghost use Rattle.luau_tables.specs.Worlds.{IsWorld, Keeps, MayUseIn, store_in};
 ghost use Rattle.luau_tables.specs.Answers.{Answered, raised_by};
 ghost use Rattle.value_model.specs.declared.builtin.Builtin.TheVariants as builtin;
 
-use lib_arguments::{answer, any_at, argument_or_nil, give_all};
+use lib_arguments::{answer, any_at, argument_at, argument_or_nil, give_all};
 use luau_tables::{LibAnswer, LibWorld};
 use resource::OutOfMemory;
 use value_model::{Builtin, RunErr, Value, truthy};
@@ -30,8 +30,8 @@ pub(crate) fn assert(
     if truthy(v) {
         return answer(give_all(results, args));
     }
-    match args.get(1) {
-        Some(message) => Ok(LibAnswer::Raise(*message)),
+    match argument_at(args, 1) {
+        Some(message) => Ok(LibAnswer::Raise(message)),
         None => Ok(LibAnswer::RunError(RunErr::AssertionFailed)),
     }
 }

@@ -31,7 +31,7 @@ returns-in-Str c =
     (rawlen_text w c.requires.world _ _ _ c.in-Str.id c.bytes.result.now c.in-Ok.v c.in-Str.is c.bytes.ensures.text c.give_count-in-Str.ensures)
 
 pub returns-in_default : goal.returns-in_default
-returns-in_default c = 
+returns-in_default c =
     let w = c.args.world.now in
     ends w _ _ _ (found_fails _ w.names _ (c.in-Ok.ensures.checks w.names)
     (no_length w c.in-Ok.v c.invalid.result c.in_default.not-Table c.in_default.not-Str (c.invalid.ensures w.names)))
