@@ -1,6 +1,7 @@
 //! The functions of the global table.
 #![tactic(auto)]
 
+mod calls;
 mod kinds;
 mod metatable;
 mod raise;
@@ -8,3 +9,5 @@ mod raw;
 mod select;
 mod texts;
 mod walk;
+
+pub use calls::call;

@@ -10,7 +10,7 @@ ghost use Rattle.value_model.specs.Waits as wait;
 ghost use Rattle.luau_tables.specs.Answers.{Answered};
 ghost use Rattle.luau_tables.specs.Worlds.{IsWorld, Keeps, MayUseIn, store_in};
 ghost use Rattle.lib_arguments.specs.Rows.{Runs};
-ghost use Rattle.lib_core.specs.Asking.{Asks};
+ghost use Rattle.lib_core.specs.Asking.{Asks, PrintsOne};
 
 use crate::metatable::tostring_of;
 use byte_text::Bytes;
@@ -123,17 +123,55 @@ pub(crate) fn print_from(
     ensures { IfOk result (λ a. (rs : List Value) → Answered world.now world.now rs rs a wait.Elsewise (core.prints (store_in world.now) (map (meant world.now.names) args.now) from text.items (drop from (map (meant world.now.names) args.now)))) }
 {
     for at in from..args.len() {
-        if at > 0 {
-            text.push(b'\t')?;
-        }
-        let v = args[at];
-        match tostring_of(world, &v) {
-            Value::Nil => add_plain(&v, world, &mut text)?,
-            handler => {
-                return call_back(alloc, handler, v, Builtin::Print, args, at, text.as_slice());
-            }
+        if let Some(call) = print_one(alloc, args, at, &args[at], world, &mut text)? {
+            return Ok(call);
         }
     }
     let line = Bytes::from_slice(alloc, text.as_slice())?;
     Ok(LibAnswer::Print(line))
+}
+
+// Appends the text of an argument, with a tab before each but the first; or the call of its handler.
+fn print_one(
+    alloc: Global,
+    args: &[Value],
+    at: usize,
+    v: &Value,
+    world: &LibWorld,
+    text: &mut Vec<u8>,
+) -> Result<Option<LibAnswer>, OutOfMemory>
+    requires world { IsWorld world.now }
+    requires args { AllByRecursion (MayUseIn world.now) args.now }
+    requires v { MayUseIn world.now v.now }
+    ensures { IfOk result (PrintsOne world.now (map (meant world.now.names) args.now) at (meant world.now.names v.now) text.old.items text.new.items) }
+{
+    add_tab(at, text)?;
+    match tostring_of(world, v) {
+        Value::Nil => {
+            add_plain(v, world, text)?;
+            Ok(None)
+        }
+        handler => {
+            let call = call_back(
+                alloc,
+                handler,
+                *v,
+                Builtin::Print,
+                args,
+                at,
+                text.as_slice(),
+            )?;
+            Ok(Some(call))
+        }
+    }
+}
+
+// Appends a tab, but not before the first argument.
+fn add_tab(at: usize, text: &mut Vec<u8>) -> Result<(), OutOfMemory>
+    ensures { OnOk result (text.new.items ≡ core.with_tab at text.old.items) }
+{
+    if at > 0 {
+        text.push(b'\t')?;
+    }
+    Ok(())
 }

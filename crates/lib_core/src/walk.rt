@@ -7,6 +7,7 @@ ghost use Rattle.value_model.specs.Parts.{meant};
 ghost use Rattle.value_model.specs.declared.value.Value.TheVariants.{Num};
 ghost use Rattle.luau_tables.specs.Worlds.{IsWorld, Keeps, MayUseIn, store_in};
 ghost use Rattle.lib_arguments.specs.Rows.{Runs};
+ghost use Rattle.lib_core.specs.Items.{GivesItem};
 
 use lib_arguments::{Ending, argument_or_nil, give, give_all, number_at, table_at};
 use luau_tables::{LibWorld, NextErr, next};
@@ -74,6 +75,39 @@ pub(crate) fn ipairs(
             zero,
         ],
     )
+}
+
+pub(crate) fn ipairs_iterator(
+    args: &[Value],
+    world: &LibWorld,
+    results: &mut Vec<Value>,
+) -> Result<(), Ending>
+    requires world { IsWorld world.now }
+    requires args { AllByRecursion (MayUseIn world.now) args.now }
+    ensures { Runs world.now world.now results.old.items results.new.items result (core.ipairs_iterator_row (map (meant world.now.names) args.now) (store_in world.now)) }
+{
+    let t = match table_at(Builtin::IpairsIterator, 0, args) {
+        Ok(t) => t,
+        Err(e) => return Err(e),
+    };
+    let last = match number_at(Builtin::IpairsIterator, 1, &world.names, args) {
+        Ok(last) => last,
+        Err(e) => return Err(e),
+    };
+    match Whole::new(last.get() + 1) {
+        Some(k) => give_item(k, world.arena.table(t).value(Value::Num(k)), results),
+        None => give(results, Value::Nil),
+    }
+}
+
+// Gives a place and the item there; nil alone where that is nil.
+fn give_item(k: Whole, item: Value, results: &mut Vec<Value>) -> Result<(), Ending>
+    ensures { GivesItem results.old.items results.new.items k item result }
+{
+    match item {
+        Value::Nil => give(results, Value::Nil),
+        item => give_all(results, &[Value::Num(k), item]),
+    }
 }
 
 // 0.
