@@ -1,5 +1,5 @@
 -- What the rows of walks give.
-use Rattle.std.proofs.Common.{◌≡◌, List, [], ◌∷◌, Option, Some, None, Result, refl, sym, ◌∙◌, ap, subst, pos}
+use Rattle.std.proofs.Common.{◌≡◌, ℤ, List, [], ◌∷◌, Option, Some, None, Result, refl, sym, ◌∙◌, ap, subst, pos}
 use Rattle.std.specs.Prelude.{option_map}
 use Rattle.value_model.specs.Answers as answer
 use Rattle.value_model.specs.CoreRows as core
@@ -17,12 +17,13 @@ use Rattle.luau_tables.specs.Part.{OfSome, pair_of}
 use Rattle.luau_tables.specs.Rules as rule
 use Rattle.luau_tables.specs.Worlds.{IsWorld, MayUseIn, store_in}
 use Rattle.luau_tables.specs.declared.globals.LibWorld.{LibWorld}
-use Rattle.luau_tables.proofs.OwnTables.{next_part, next_usable}
+use Rattle.luau_tables.proofs.OwnTables.{get_part, got_usable, next_part, next_usable}
 use Rattle.lib_arguments.specs.Checks.{Fails}
 use Rattle.lib_arguments.specs.Rows.{Runs, Gives}
 use Rattle.lib_arguments.specs.declared.ending.Ending.{Ending}
 use Rattle.lib_arguments.specs.declared.ending.Ending.TheVariants.{RunError}
 use Rattle.lib_arguments.proofs.RowsRun.{gives_runs}
+use Rattle.lib_core.specs.Items.{GivesItem}
 
 module _ (w : LibWorld) (rs rs' : List Value) (result : Result (Unit {0}) Ending) where
   pub pairs_gives : (t : TableId) → MayUseIn w (value.Table t) → Gives rs rs' (value.Native builtin.Next ∷ value.Table t ∷ value.Nil ∷ []) result →
@@ -59,3 +60,17 @@ module _ (w : LibWorld) (world : IsWorld w) (t : TableId) (key : Value) (given :
   pub unknown_key : rule.next (table_at w.arena t) key ≡ None → Fails w.names (core.next_answer (store_in w) (model.next_entry (store.table_at (store_in w) (table_ref t)) given)) (RunError err.UnknownKey)
   unfolding meant_error
   unknown_key e = (next_is None e, tt)
+
+-- an item
+pub iterator_gives : (w : LibWorld) → IsWorld w → (rs rs' : List Value) (result : Result (Unit {0}) Ending) (t : TableId) (z k : ℤ) (v : Value) → MayUseIn w (value.Table t) → v ≡ rule.get (table_at w.arena t) (value.Num z) → k ≡ z →
+    GivesItem rs rs' k v result → Runs w w rs rs' result (core.item_answer (store_in w) z (model.item (store.table_at (store_in w) (table_ref t)) z))
+unfolding meant
+iterator_gives w world rs rs' result t z k v table e same gives =
+    subst (λ v. Runs w w rs rs' result (core.item_answer (store_in w) z v))
+    (ap (meant w.names) e ∙ sym (get_part w.names w.globals w.arena w.owner world.own t (value.Num z) table (tt, tt)))
+    (subst (λ z. Runs w w rs rs' result (core.item_answer (store_in w) z (meant w.names v))) same
+    (by v (subst (MayUseIn w) (sym e) (got_usable w.names w.globals w.arena w.owner world.own t (value.Num z) table)) gives))
+  where
+    by : (v : Value) → MayUseIn w v → GivesItem rs rs' k v result → Runs w w rs rs' result (core.item_answer (store_in w) k (meant w.names v))
+    by value.Nil used h = gives_runs w w rs rs' (value.Nil ∷ []) result _ h ((tt, tt), tt) refl
+    by v used h = ?

@@ -94,8 +94,10 @@ pub(crate) fn ipairs_iterator(
         Ok(last) => last,
         Err(e) => return Err(e),
     };
-    match Whole::new(last.get() + 1) {
-        Some(k) => give_item(k, world.arena.table(t).value(Value::Num(k)), results),
+    let next = last.get() + 1;
+    let item = world.arena.table(t).item(next);
+    match Whole::new(next) {
+        Some(k) => give_item(k, item, results),
         None => give(results, Value::Nil),
     }
 }
