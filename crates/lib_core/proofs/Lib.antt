@@ -1,4 +1,5 @@
 pub mod Builtins
+pub mod GoingOn
 pub mod MetaRows
 pub mod NumberRows
 pub mod RaiseRows

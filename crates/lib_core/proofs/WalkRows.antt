@@ -73,4 +73,4 @@ iterator_gives w world rs rs' result t z k v table e same gives =
   where
     by : (v : Value) → MayUseIn w v → GivesItem rs rs' k v result → Runs w w rs rs' result (core.item_answer (store_in w) k (meant w.names v))
     by value.Nil used h = gives_runs w w rs rs' (value.Nil ∷ []) result _ h ((tt, tt), tt) refl
-    by v used h = ?
+    by v used h = gives_runs w w rs rs' (value.Num k ∷ v ∷ []) result _ h ((tt, tt), (used, tt)) refl

@@ -26,3 +26,9 @@ IsCore builtin.Setmetatable = Unit {0}
 IsCore builtin.Type = Unit {0}
 IsCore builtin.Typeof = Unit {0}
 IsCore f = IsReader f
+
+-- those that ask for the texts of their arguments
+abbrev pub IsAsker : Builtin → Type 0
+IsAsker builtin.Print = Unit {0}
+IsAsker builtin.Tostring = Unit {0}
+IsAsker _ = ⊥

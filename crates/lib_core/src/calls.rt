@@ -48,8 +48,8 @@ pub fn call(
         Builtin::Error => Ok(error(args, world, results)),
         Builtin::Rawset => answer(rawset(args, world, results)),
         Builtin::Setmetatable => answer(setmetatable(args, world, results)),
-        Builtin::Type => answer(kind_name(builtin, args, world, results)),
-        Builtin::Typeof => answer(kind_name(builtin, args, world, results)),
+        Builtin::Type => answer(kind_name(Builtin::Type, args, world, results)),
+        Builtin::Typeof => answer(kind_name(Builtin::Typeof, args, world, results)),
         _ => answer(read(alloc, builtin, args, world, results)),
     }
 }

@@ -2,6 +2,7 @@
 #![tactic(auto)]
 
 mod calls;
+mod going;
 mod kinds;
 mod metatable;
 mod raise;
@@ -11,3 +12,4 @@ mod texts;
 mod walk;
 
 pub use calls::call;
+pub use going::go_on;

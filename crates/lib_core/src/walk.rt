@@ -1,6 +1,6 @@
 //! Walks.
 
-ghost use Rattle.std.specs.Prelude.{◌≡◌, map, pos};
+ghost use Rattle.std.specs.Prelude.{◌≡◌, ◌+ℤ◌, map, pos};
 ghost use Rattle.std.specs.List.{AllByRecursion};
 ghost use Rattle.value_model.specs.CoreRows as core;
 ghost use Rattle.value_model.specs.Parts.{meant};
@@ -94,12 +94,19 @@ pub(crate) fn ipairs_iterator(
         Ok(last) => last,
         Err(e) => return Err(e),
     };
-    let next = last.get() + 1;
+    let next = after(last);
     let item = world.arena.table(t).item(next);
     match Whole::new(next) {
         Some(k) => give_item(k, item, results),
         None => give(results, Value::Nil),
     }
+}
+
+// The number after a number.
+fn after(number: Whole) -> i64
+    ensures { result ≡ number +ℤ pos 1 }
+{
+    number.get() + 1
 }
 
 // Gives a place and the item there; nil alone where that is nil.

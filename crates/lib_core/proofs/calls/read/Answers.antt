@@ -66,5 +66,5 @@ returns-in-Getmetatable c =
     let w = c.args.world.now in
     subst (λ f. Runs w w c.args.results.now.items c.getmetatable.new.results.items c.getmetatable.result (lib f (map (meant w.names) c.args.args.now) (store_in w))) (sym c.in-Getmetatable.is) c.getmetatable.ensures
 
-pub prove-unreachable-requires : goal.prove-unreachable-requires
-prove-unreachable-requires c = no_reader c.args.builtin c.requires.builtin c.in_default.not-Tonumber c.in_default.not-Select c.in_default.not-Next c.in_default.not-Pairs c.in_default.not-Ipairs c.in_default.not-IpairsIterator c.in_default.not-Rawget c.in_default.not-Rawequal c.in_default.not-Rawlen c.in_default.not-Getmetatable
+pub unreachable-requires : goal.unreachable-requires
+unreachable-requires c = no_reader c.args.builtin c.requires.builtin c.in_default.not-Tonumber c.in_default.not-Select c.in_default.not-Next c.in_default.not-Pairs c.in_default.not-Ipairs c.in_default.not-IpairsIterator c.in_default.not-Rawget c.in_default.not-Rawequal c.in_default.not-Rawlen c.in_default.not-Getmetatable
