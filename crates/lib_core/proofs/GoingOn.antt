@@ -6,6 +6,7 @@ use Rattle.value_model.specs.Errors as error
 use Rattle.value_model.specs.Library.{go_on, goes_on}
 use Rattle.value_model.specs.Parts.{bytes_at, meant, meant_error}
 use Rattle.value_model.specs.Values as m
+use Rattle.value_model.specs.Values.{Bytes}
 use Rattle.value_model.specs.declared.builtin.Builtin.{Builtin}
 use Rattle.value_model.specs.declared.builtin.Builtin.TheVariants as builtin
 use Rattle.value_model.specs.declared.error.RunErr.TheVariants as err
@@ -47,9 +48,18 @@ module _ (w : LibWorld) (then : Continue) (given : Value) where
       (with_text x e ∙ ap (λ f. goes_on f (meant_continue w.names then) (store_in w) (bytes_at w.names x.0)) (is_tostring then.builtin asks other))
 
   pub no_text_on : ((x : StrId) → given ≡ value.Str x → ⊥) → Fails w.names (go_on (meant_continue w.names then) (meant w.names given) (store_in w)) (RunError err.NotStringByTostring)
-  unfolding go_on meant meant_error
+  unfolding go_on meant meant_error meant_continue
   no_text_on other = (by given other, tt)
     where
       by : (v : Value) → ((x : StrId) → v ≡ value.Str x → ⊥) → core.text_given (meant w.names v) (goes_on then.builtin (meant_continue w.names then) (store_in w)) ≡ answer.ErrsWith error.NotStringByTostring
       by (value.Str x) other = absurd (other x refl)
       by _ other = refl
+
+-- the same line, by equal arguments, place and text
+pub same_prints : (w : LibWorld) (vs args : List Value) (i at : ℕ) (line text bs : Bytes) → vs ≡ args → i ≡ suc at → line ≡ text ++ bs →
+    core.prints (store_in w) (map (meant w.names) vs) i line (drop i (map (meant w.names) vs))
+    ≡ core.prints (store_in w) (map (meant w.names) args) (suc at) (text ++ bs) (drop (suc at) (map (meant w.names) args))
+same_prints w vs args i at line text bs a n t =
+    ap (λ vs. core.prints (store_in w) (map (meant w.names) vs) i line (drop i (map (meant w.names) vs))) a
+    ∙ ap (λ i. core.prints (store_in w) (map (meant w.names) args) i line (drop i (map (meant w.names) args))) n
+    ∙ ap (λ line. core.prints (store_in w) (map (meant w.names) args) (suc at) line (drop (suc at) (map (meant w.names) args))) t
