@@ -1,0 +1,5 @@
+pub mod ArenaKept
+pub mod Found
+pub mod Looks
+pub mod NamesKept
+pub mod RowsRun

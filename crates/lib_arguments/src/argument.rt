@@ -19,8 +19,8 @@ pub fn any_at(f: Builtin, i: usize, args: &[Value]) -> Result<Value, Ending>
     wanted(f, i, Wanted::AnyValue, args)
 }
 
-// The same, where a value of some sort is wanted.
-pub(crate) fn wanted(f: Builtin, i: usize, w: Wanted, args: &[Value]) -> Result<Value, Ending>
+/// The same, where a value of some sort is wanted.
+pub fn wanted(f: Builtin, i: usize, w: Wanted, args: &[Value]) -> Result<Value, Ending>
     requires { i < most_arguments }
     ensures checks { (texts : List Bytes) → Checks texts (meant texts) (row.wanted_argument f i w (slice_get (map (meant texts) args.now) i)) result }
     ensures there { IfOk result (λ v. slice_get args.now i ≡ Some v) }
@@ -32,6 +32,16 @@ pub(crate) fn wanted(f: Builtin, i: usize, w: Wanted, args: &[Value]) -> Result<
             function: f,
             wanted: w,
         })),
+    }
+}
+
+/// An argument, where it is there.
+pub fn argument_at(args: &[Value], i: usize) -> Option<Value>
+    ensures { result ≡ slice_get args.now i }
+{
+    match args.get(i) {
+        Some(v) => Some(*v),
+        None => None,
     }
 }
 
@@ -52,7 +62,10 @@ pub fn table_at(f: Builtin, i: usize, args: &[Value]) -> Result<TableId, Ending>
     ensures checks { (texts : List Bytes) → Checks texts table_ref (row.table_argument f i (map (meant texts) args.now)) result }
     ensures there { IfOk result (λ t. slice_get args.now i ≡ Some (Table t)) }
 {
-    table_from(f, i, wanted(f, i, Wanted::OfKind(Kind::Table), args)?)
+    match wanted(f, i, Wanted::OfKind(Kind::Table), args) {
+        Ok(v) => table_from(f, i, v),
+        Err(e) => Err(e),
+    }
 }
 
 /// The table that an argument is.
@@ -67,8 +80,8 @@ pub fn table_from(f: Builtin, i: usize, v: Value) -> Result<TableId, Ending>
     }
 }
 
-// An argument of another kind than the one that is wanted.
-pub(crate) fn invalid(f: Builtin, i: usize, w: Wanted, v: &Value) -> Ending
+/// An argument of another kind than the one that is wanted.
+pub fn invalid(f: Builtin, i: usize, w: Wanted, v: &Value) -> Ending
     requires { i < most_arguments }
     ensures { (texts : List Bytes) → Fails texts (row.invalid f i w (meant texts v.now)) result }
 {
