@@ -4,38 +4,36 @@ def sub(p, pairs):
         assert a in s,(p,a)
         s=s.replace(a,b)
     open(p,'w').write(s)
-sub('specs/OnIds.antt',[("""-- with the order of two numbers or of two strings
-""","""-- the order of two numbers or of two strings
-abbrev pub ordered : (numbers : ℤ → ℤ → Bool) → (strings : Bytes → Bytes → Bool) → (texts : List Bytes) → Value → Value → Option Bool
-ordered numbers strings texts (Num x) (Num y) = Some (numbers x y)
-ordered numbers strings texts (Str x) (Str y) = Some (strings (bytes_at texts x.0) (bytes_at texts y.0))
-ordered numbers strings texts v w = None
+sub('src/joining.rt',[("""    let handler = metamethod_of_two(arena, globals, left, right, globals.meta.concat);
+    let error = Outcome::RunError(RunErr::Concatenate {
+        left: kind_of(left),
+        right: kind_of(right),
+    });
+    Ok(call_two_or(&handler, left, right, error))
+}
+""","""    Ok(not_joined(arena, globals, left, right))
+}
 
--- with that order
+// Two operands that are not both texts.
+fn not_joined(arena: &Arena, globals: &Globals, a: &Value, b: &Value) -> Outcome
+    requires owned { IsOwned arena.now }
+    requires strings { HasTable arena.now globals.now.string_meta }
+    requires a { IsThere arena.now a.now }
+    requires b { IsThere arena.now b.now }
+    ensures { result ≡ kept.not_joined arena.now globals.now a.now b.now }
+{
+    let handler = metamethod_of_two(arena, globals, a, b, globals.meta.concat);
+    let (left, right) = (kind_of(a), kind_of(b));
+    let error = Outcome::RunError(RunErr::Concatenate { left, right });
+    call_two_or(&handler, a, b, error)
+}
 """)])
-sub('src/comparing.rt',[
-("kept.less arena.now globals.now a.now b.now (model.ordered int_lt model.bytes_less (meant names.now a.now) (meant names.now b.now))","kept.less arena.now globals.now a.now b.now (kept.ordered int_lt bytes_less names.now a.now b.now)"),
-("kept.less_or_equal arena.now globals.now a.now b.now (model.ordered int_le (λ x y. not (model.bytes_less y x)) (meant names.now a.now) (meant names.now b.now))","kept.less_or_equal arena.now globals.now a.now b.now (kept.ordered int_le (λ x y. not (bytes_less y x)) names.now a.now b.now)"),
-("result ≡ model.ordered int_lt model.bytes_less (meant names.now a.now) (meant names.now b.now)","result ≡ kept.ordered int_lt bytes_less names.now a.now b.now"),
-("result ≡ model.ordered int_le (λ x y. not (model.bytes_less y x)) (meant names.now a.now) (meant names.now b.now)","result ≡ kept.ordered int_le (λ x y. not (bytes_less y x)) names.now a.now b.now"),
-("result ≡ model.bytes_less a.now b.now","result ≡ bytes_less a.now b.now"),
-("ghost use Rattle.value_model.specs.Metamethods as model;","ghost use Rattle.value_model.specs.Metamethods.{bytes_less};"),
-])
-sub('proofs/OperatorsKept.antt',[
-("outcome ≡ kept.less a g v u (model.ordered int_lt model.bytes_less (meant texts v) (meant texts u)) →","outcome ≡ kept.less a g v u (kept.ordered int_lt model.bytes_less texts v u) →"),
-("chosen_is (choice.Compare order.Lt (meant texts v) (meant texts u)) _ _ outcome refl (less_means v u h k (model.ordered int_lt model.bytes_less (meant texts v) (meant texts u))) e","chosen_is (choice.Compare order.Lt (meant texts v) (meant texts u)) _ _ outcome refl (less_means v u h k (model.ordered int_lt model.bytes_less (meant texts v) (meant texts u))) (e ∙ ap (kept.less a g v u) (sym (ordered_kept int_lt model.bytes_less texts v u)))"),
-("outcome ≡ kept.less_or_equal a g v u (model.ordered int_le (λ x y. not (model.bytes_less y x)) (meant texts v) (meant texts u)) →","outcome ≡ kept.less_or_equal a g v u (kept.ordered int_le (λ x y. not (model.bytes_less y x)) texts v u) →"),
-("(less_or_equal_means v u h k (model.ordered int_le (λ x y. not (model.bytes_less y x)) (meant texts v) (meant texts u))) e","(less_or_equal_means v u h k (model.ordered int_le (λ x y. not (model.bytes_less y x)) (meant texts v) (meant texts u))) (e ∙ ap (kept.less_or_equal a g v u) (sym (ordered_kept int_le (λ x y. not (model.bytes_less y x)) texts v u)))"),
-("""-- ---- in the part of a script
-""","""-- the order of two numbers or of two strings
-ordered_kept : (numbers : ℤ → ℤ → Bool) (strings : Bytes → Bytes → Bool) (texts : List Bytes) (v u : Value) → model.ordered numbers strings (meant texts v) (meant texts u) ≡ kept.ordered numbers strings texts v u
-unfolding meant
-ordered_kept numbers strings texts (value.Num x) (value.Num y) = refl
-ordered_kept numbers strings texts (value.Num x) _ = refl
-ordered_kept numbers strings texts (value.Str x) (value.Str y) = refl
-ordered_kept numbers strings texts (value.Str x) _ = refl
-ordered_kept numbers strings texts _ _ = refl
+sub('proofs/JoiningKept.antt',[("""module _ (texts : List Bytes) (g : Globals) (a : ArenaView) (w : Owner) (own : IsOwn texts g a w) where
+""","""pub joins : (before after : List Bytes) (g : Globals) (a : ArenaView) → Extends before after → (AreTexts before → AreTexts after) → (v u : Value) → kept.are_texts v u ≡ true → (r : Result Outcome OutOfMemory) → IfOk r (λ outcome. MeansText after outcome (kept.text_of before v ++ kept.text_of before u)) → IfOk r (λ outcome. JoinsIn before after g a v u outcome)
+joins before after g a extends texts v u e (Ok outcome) n = λ w own may also. joined_is before after g a w own extends texts v u e outcome n
+joins before after g a extends texts v u e (Err error) n = tt
 
--- ---- in the part of a script
-"""),
-])
+module _ (texts : List Bytes) (g : Globals) (a : ArenaView) (w : Owner) (own : IsOwn texts g a w) where
+"""),("{meant_outcome, IsJoined, MeansText, OfOutcome}","{meant_outcome, IsJoined, JoinsIn, MeansText, OfOutcome}"),
+("length, Option, Some, None, slice_get","length, Option, Some, None, Result, Ok, Err, IfOk, slice_get"),
+("use Rattle.value_model.specs.Choices as choice\n","use Rattle.resource.specs.declared.memory.OutOfMemory.{OutOfMemory}\nuse Rattle.value_model.specs.Choices as choice\n")])
