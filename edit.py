@@ -4,36 +4,28 @@ def sub(p, pairs):
         assert a in s,(p,a)
         s=s.replace(a,b)
     open(p,'w').write(s)
-sub('src/joining.rt',[("""    let handler = metamethod_of_two(arena, globals, left, right, globals.meta.concat);
-    let error = Outcome::RunError(RunErr::Concatenate {
-        left: kind_of(left),
-        right: kind_of(right),
-    });
-    Ok(call_two_or(&handler, left, right, error))
-}
-""","""    Ok(not_joined(arena, globals, left, right))
-}
+sub('specs/OnIds.antt',[("""-- what comes of the write itself; a frozen table is refused before a nil key
+abbrev pub write_outcome : (is_frozen : Bool) → (key : Value) → Outcome
+write_outcome true key = RunError err.ReadonlyTable
+write_outcome false key = cond (is_nil key) (RunError err.NilKey) (Done Nil)
+""","""-- the table that is written
+abbrev pub OfTarget : (TableId → Type 0) → Target → Type 0
+OfTarget P (Into t) = P t
+OfTarget P (NoTable o) = Unit {0}
 
-// Two operands that are not both texts.
-fn not_joined(arena: &Arena, globals: &Globals, a: &Value, b: &Value) -> Outcome
-    requires owned { IsOwned arena.now }
-    requires strings { HasTable arena.now globals.now.string_meta }
-    requires a { IsThere arena.now a.now }
-    requires b { IsThere arena.now b.now }
-    ensures { result ≡ kept.not_joined arena.now globals.now a.now b.now }
-{
-    let handler = metamethod_of_two(arena, globals, a, b, globals.meta.concat);
-    let (left, right) = (kind_of(a), kind_of(b));
-    let error = Outcome::RunError(RunErr::Concatenate { left, right });
-    call_two_or(&handler, a, b, error)
-}
+-- what comes of the write itself; a frozen table is refused before a nil key
+abbrev pub write_outcome : (is_frozen is_nil_key : Bool) → Outcome
+write_outcome true is_nil_key = RunError err.ReadonlyTable
+write_outcome false true = RunError err.NilKey
+write_outcome false false = Done Nil
 """)])
-sub('proofs/JoiningKept.antt',[("""module _ (texts : List Bytes) (g : Globals) (a : ArenaView) (w : Owner) (own : IsOwn texts g a w) where
-""","""pub joins : (before after : List Bytes) (g : Globals) (a : ArenaView) → Extends before after → (AreTexts before → AreTexts after) → (v u : Value) → kept.are_texts v u ≡ true → (r : Result Outcome OutOfMemory) → IfOk r (λ outcome. MeansText after outcome (kept.text_of before v ++ kept.text_of before u)) → IfOk r (λ outcome. JoinsIn before after g a v u outcome)
-joins before after g a extends texts v u e (Ok outcome) n = λ w own may also. joined_is before after g a w own extends texts v u e outcome n
-joins before after g a extends texts v u e (Err error) n = tt
+sub('src/storing.rt',[("(outcome ≡ kept.write_outcome (table_at arena.old t).is_frozen key.now)","(outcome ≡ kept.write_outcome (table_at arena.old t).is_frozen (kept.is_nil key.now))"),
+("""    ensures value { result ≡ kept.newindex_along 101 arena.now globals.now key.now v.now 0 first.now }
+""","""    ensures value { result ≡ kept.newindex_along 101 arena.now globals.now key.now v.now 0 first.now }
+    ensures there { kept.OfTarget (HasTable arena.now) result.0 }
+""")])
+sub('proofs/storing/writes_into/Answers.antt',[("pub returns-in-Calls-clause-value","""pub returns-in-Here-clause-there : goal.returns-in-Here-clause-there
+returns-in-Here-clause-there g c =
+    place_of_some c.args.arena.now c.requires.owned c.loop-asked.base c.as_table.result c.in-Some.t c.loop-asked.invariant.there c.as_table.ensures c.in-Some.is
 
-module _ (texts : List Bytes) (g : Globals) (a : ArenaView) (w : Owner) (own : IsOwn texts g a w) where
-"""),("{meant_outcome, IsJoined, MeansText, OfOutcome}","{meant_outcome, IsJoined, JoinsIn, MeansText, OfOutcome}"),
-("length, Option, Some, None, slice_get","length, Option, Some, None, Result, Ok, Err, IfOk, slice_get"),
-("use Rattle.value_model.specs.Choices as choice\n","use Rattle.resource.specs.declared.memory.OutOfMemory.{OutOfMemory}\nuse Rattle.value_model.specs.Choices as choice\n")])
+pub returns-in-Calls-clause-value""")])
