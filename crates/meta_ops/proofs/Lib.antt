@@ -1,0 +1,9 @@
+pub mod Borders
+pub mod CallsKept
+pub mod Chains
+pub mod IndexKept
+pub mod JoiningKept
+pub mod MetamethodsKept
+pub mod OperatorsKept
+pub mod StoringKept
+pub mod There
