@@ -1,8 +1,10 @@
 //! Single elements.
 
-ghost use Rattle.std.specs.Prelude.{◌≡◌, pos, OnOk, OnErr};
+ghost use Rattle.std.specs.Prelude.{◌≡◌, false, pos, OnOk, OnErr};
 ghost use Rattle.luau_tables.specs.Rules as rule;
-ghost use Rattle.table_lists.specs.Lists.{count_between, item};
+ghost use Rattle.table_lists.specs.Lists.{item};
+ghost use Rattle.value_model.specs.StringRows.{count_between};
+ghost use Rattle.whole_num.specs.Whole.{IsWhole};
 ghost use Rattle.value_arena.specs.Tables.{is_nil};
 
 use resource::OutOfMemory;
@@ -18,13 +20,14 @@ pub fn is_nil(value: &Value) -> bool
     matches!(value, Value::Nil)
 }
 
-/// The element under a number, else nil: there is none under a number that is out of range.
+/// The element under a whole number, else nil.
 pub fn item(table: &Table, k: i64) -> Value
+    requires { IsWhole k }
     ensures { result ≡ item table.now k }
 {
     match Whole::new(k) {
         Some(number) => table.value(Value::Num(number)),
-        None => Value::Nil,
+        None => unreachable!(),
     }
 }
 
@@ -32,7 +35,9 @@ pub fn item(table: &Table, k: i64) -> Value
 pub fn end_of(table: &Table) -> Whole
     ensures { result ≡ pos (rule.border table.now) }
 {
-    match Whole::new(table.border() as i64) {
+    let border = table.border();
+    prove!(border <= table.len());
+    match Whole::new(border as i64) {
         Some(number) => number,
         None => unreachable!(),
     }

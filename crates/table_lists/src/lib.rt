@@ -3,12 +3,12 @@
 
 mod copy;
 mod element;
-mod fill;
+mod range;
 mod search;
 mod shift;
 
 pub use copy::{clear, entries, put_entries};
 pub use element::{count_between, end_of, is_nil, item, put};
-pub use fill::{fill, items, put_all, put_number};
+pub use range::{fill, items, put_all, put_number};
 pub use search::find;
 pub use shift::{shift_down, shift_up};

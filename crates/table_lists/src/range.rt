@@ -1,7 +1,10 @@
 //! Elements in a row.
 
-ghost use Rattle.std.specs.Prelude.{◌≡◌, ◌+◌, ◌≤◌, pos, ◌+ℤ◌, ◌≤ℤ◌, length, replicate, OnOk, OnErr, IfOk};
-ghost use Rattle.table_lists.specs.Lists.{items, put_all, Began, greatest, least};
+ghost use Rattle.std.specs.Prelude.{◌≡◌, ◌+◌, ◌^◌, ◌≤◌, pos, neg_ℤ, ◌+ℤ◌, ◌≤ℤ◌, length, replicate, OnOk, OnErr, IfOk};
+ghost use Rattle.luau_tables.specs.Rules as rule;
+ghost use Rattle.table_lists.specs.Lists.{items, put_all, Began};
+ghost use Rattle.value_model.specs.declared.value.Value.TheVariants.{Num};
+ghost use Rattle.whole_num.specs.Whole.{IsWhole};
 
 use crate::element::{item, put};
 use resource::OutOfMemory;
@@ -12,9 +15,8 @@ use whole_num::Whole;
 
 /// The values under so many numbers from one on.
 pub fn items(alloc: Global, table: &Table, first: i64, count: usize) -> Result<Vec<Value>, OutOfMemory>
-    requires low { least ≤ℤ first }
-    requires high { first ≤ℤ pos greatest }
-    requires count { count ≤ 2 * greatest + 1 }
+    requires low { neg_ℤ (pos (2 ^ 53)) ≤ℤ first }
+    requires high { (first +ℤ pos count) ≤ℤ pos (2 ^ 53 + 1) }
     ensures { IfOk result (λ vs. vs.items ≡ items table.now first count) }
 {
     let mut values = Vec::new(alloc);
@@ -26,8 +28,8 @@ pub fn items(alloc: Global, table: &Table, first: i64, count: usize) -> Result<V
 
 /// Writes values under the numbers from one on, which are all in range.
 pub fn put_all(table: &mut Table, first: i64, values: &[Value]) -> Result<(), OutOfMemory>
-    requires low { least ≤ℤ first }
-    requires high { first +ℤ pos (length values.now) ≤ℤ pos (greatest + 1) }
+    requires low { neg_ℤ (pos (2 ^ 53)) ≤ℤ first }
+    requires high { (first +ℤ pos (length values.now)) ≤ℤ pos (2 ^ 53 + 1) }
     ensures ok { OnOk result (table.new ≡ put_all table.old first values.now) }
     ensures err { OnErr result (Began table.old table.new first values.now) }
 {
@@ -39,7 +41,7 @@ pub fn put_all(table: &mut Table, first: i64, values: &[Value]) -> Result<(), Ou
 
 /// Writes one value under the numbers from 1 on, so many.
 pub fn fill(table: &mut Table, count: usize, v: Value) -> Result<(), OutOfMemory>
-    requires { count ≤ greatest }
+    requires { count ≤ 2 ^ 53 }
     ensures ok { OnOk result (table.new ≡ put_all table.old (pos 1) (replicate count v)) }
     ensures err { OnErr result (Began table.old table.new (pos 1) (replicate count v)) }
 {
