@@ -4,5 +4,7 @@ pub mod OwnKept
 pub mod OwnTables
 pub mod PartKept
 pub mod Sameness
+pub mod StoreTables
 pub mod TablesKept
 pub mod Texts
+pub mod WorldsKept
