@@ -1,9 +1,15 @@
 //! The values that library functions give.
 
 ghost use Rattle.std.specs.Prelude.{[], ◌∷◌};
-ghost use Rattle.lib_arguments.specs.Rows.{Gives};
+ghost use Rattle.lib_arguments.specs.Rows.{Gives, Runs};
+ghost use Rattle.luau_tables.specs.Worlds.{IsWorld, Keeps, store_in};
+ghost use Rattle.value_model.specs.Answers as model;
+ghost use Rattle.value_model.specs.Values as m;
 
 use crate::ending::Ending;
+use crate::text::text_value;
+use luau_tables::LibWorld;
+use resource::OutOfMemory;
 use value_model::Value;
 
 /// Appends a value.
@@ -23,5 +29,21 @@ pub fn give_all(results: &mut Vec<Value>, values: &[Value]) -> Result<(), Ending
     match results.extend_from_slice(values) {
         Ok(()) => Ok(()),
         Err(_) => Err(Ending::OutOfMemory),
+    }
+}
+
+/// Gives the text of some bytes.
+pub fn give_text(
+    bytes: &[u8],
+    world: &mut LibWorld,
+    results: &mut Vec<Value>,
+) -> Result<(), Ending>
+    requires { IsWorld world.old }
+    ensures runs { Runs world.old world.new results.old.items results.new.items result (model.Answers (m.Text bytes.now ∷ []) (store_in world.old)) }
+    ensures keeps { Keeps world.old world.new }
+{
+    match text_value(&mut world.names, bytes) {
+        Ok(id) => give(results, Value::Str(id)),
+        Err(OutOfMemory) => Err(Ending::OutOfMemory),
     }
 }
