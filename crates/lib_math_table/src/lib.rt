@@ -3,3 +3,4 @@
 
 mod math;
 mod tables;
+mod unpacking;
