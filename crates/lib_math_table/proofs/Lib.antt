@@ -1,3 +1,4 @@
 pub mod Changes
 pub mod Giving
+pub mod Inserting
 pub mod Lists

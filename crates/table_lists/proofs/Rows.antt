@@ -4,6 +4,8 @@ use Rattle.std.specs.Prelude.{◌≤ℤ◌}
 use Rattle.std.proofs.lemmas.Int.{ints}
 use Rattle.std.proofs.lemmas.List.{take_more, length-take-le, length-replicate}
 use Rattle.std.proofs.Math.ListN.{replicate}
+use Rattle.std.proofs.Math.Seq.{take-length}
+use Rattle.resource.specs.declared.memory.OutOfMemory.{OutOfMemory}
 use Rattle.value_model.proofs.Pairs.{written_else}
 use Rattle.value_model.specs.Pairs as pairs
 use Rattle.value_model.specs.declared.value.Value.{Value}
@@ -145,3 +147,8 @@ item_at t z z' e = ap (λ z. item t z) e
 
 pub first_items : (t : TableView) (k k' : ℤ) (i n : ℕ) → k ≡ k' → i ≤ n → items t k i ≡ take i (items t k' n)
 first_items t k k' i n e l = ap (λ k. items t k i) e ∙ sym (take_items t k' i n l)
+
+-- after all values the last write wants memory
+pub began_all : (r : Result (Unit {0}) OutOfMemory) (now t u : TableView) (k : ℤ) (vs : List Value) → OnErr r (now ≡ t) → t ≡ put_all u k vs → OnErr r (Began u now k vs)
+began_all (Ok done) now t u k vs e h = tt
+began_all (Err x) now t u k vs e h = record { count = length vs; is = e ∙ h ∙ ap (λ vs. put_all u k vs) (sym (take-length vs)) }

@@ -23,6 +23,14 @@ items t k (suc n) = item t k ∷ items t (k +ℤ pos 1) n
 unfoldable pub put_all : TableView → (from : ℤ) → List Value → TableView
 put_all t k vs = record t { entries = pairs.all_written same is_nil Nil number t.entries k vs }
 
+-- a value put under a number, with so many elements from there on one place up
+abbrev pub inserted : TableView → ℤ → (count : ℕ) → Value → TableView
+inserted t k n v = rule.put (put_all t (k +ℤ pos 1) (items t k n)) (Num k) v
+
+-- an element taken out, with so many behind it one place down
+abbrev pub removed : TableView → ℤ → (count : ℕ) → TableView
+removed t k n = rule.put (put_all t k (items t (k +ℤ pos 1) n)) (Num (k +ℤ pos n)) Nil
+
 -- some first ones of the values are written
 pub record Began (before after : TableView) (from : ℤ) (vs : List Value) : Type 0 where
   pub count : ℕ

@@ -11,4 +11,4 @@ pub use copy::{clear, entries, put_entries};
 pub use element::{count_between, end_of, is_nil, item, put};
 pub use range::{fill, items, put_all, put_number};
 pub use search::find;
-pub use shift::{shift_down, shift_up};
+pub use shift::{insert, remove};

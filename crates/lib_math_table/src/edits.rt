@@ -1,0 +1,92 @@
+//! `table.insert` and `table.remove`.
+
+ghost use Rattle.std.specs.Prelude.{◌≡◌, ◌+ℤ◌, ◌&&◌, int_le, List, map, pos};
+ghost use Rattle.std.specs.List.{AllByRecursion};
+ghost use Rattle.value_model.specs.Parts.{meant, table_ref};
+ghost use Rattle.value_model.specs.TableRows as table;
+ghost use Rattle.value_model.specs.declared.value.Value.{Value};
+ghost use Rattle.value_model.specs.declared.value.Value.TheVariants.{Table};
+ghost use Rattle.luau_tables.specs.Worlds.{IsWorld, Keeps, MayUseIn, store_in};
+ghost use Rattle.lib_arguments.specs.Rows.{Runs};
+
+use lib_arguments::{Ending, any_at, give, number_at, number_or, out_of_range, table_at};
+use luau_tables::LibWorld;
+use resource::OutOfMemory;
+use table_lists::{count_between, end_of, item, put};
+use value_model::{Builtin, RunErr, TableId, Value};
+use whole_num::{Stop, Whole};
+
+pub(crate) fn insert(args: &[Value], world: &mut LibWorld) -> Result<(), Ending>
+    requires world { IsWorld world.old }
+    requires args { AllByRecursion (MayUseIn world.old) args.now }
+    ensures runs { (rs : List Value) → Runs world.old world.new rs rs result (table.insert_row (map (meant world.old.names) args.now) (store_in world.old)) }
+    ensures keeps { Keeps world.old world.new }
+{
+    let t = match table_at(Builtin::TableInsert, 0, args) {
+        Ok(t) => t,
+        Err(e) => return Err(e),
+    };
+    match args.get(2) {
+        None => match any_at(Builtin::TableInsert, 1, args) {
+            Ok(v) => append(t, v, world),
+            Err(e) => Err(e),
+        },
+        Some(v) => match number_at(Builtin::TableInsert, 1, &world.names, args) {
+            Ok(k) => insert_at(t, k, *v, world),
+            Err(e) => Err(e),
+        },
+    }
+}
+
+// Puts a value behind the border.
+fn append(t: TableId, v: Value, world: &mut LibWorld) -> Result<(), Ending>
+    requires world { IsWorld world.old }
+    requires table { MayUseIn world.old (Table t) }
+    requires value { MayUseIn world.old v }
+    ensures runs { (rs : List Value) → Runs world.old world.new rs rs result (table.append (store_in world.old) (table_ref t) (meant world.old.names v)) }
+    ensures keeps { Keeps world.old world.new }
+{
+    if world.arena.table(t).is_frozen() {
+        return Err(Ending::RunError(RunErr::ReadonlyTable));
+    }
+    let k = match Whole::new(end_of(world.arena.table(t)).get() + 1) {
+        Some(k) => k,
+        None => return Err(Ending::Stop(Stop::OutOfRange)),
+    };
+    match put(world.arena.table_mut(t), Value::Num(k), v) {
+        Ok(()) => Ok(()),
+        Err(OutOfMemory) => Err(Ending::OutOfMemory),
+    }
+}
+
+// Whether a number is at least 1 and at most one behind another.
+fn is_place(k: Whole, end: Whole) -> bool
+    ensures { result ≡ (int_le (pos 1) k && int_le k (end +ℤ pos 1)) }
+{
+    1 <= k.get() && k.get() <= end.get() + 1
+}
+
+// Puts a value in its place, from which the others move up.
+fn insert_at(t: TableId, k: Whole, v: Value, world: &mut LibWorld) -> Result<(), Ending>
+    requires world { IsWorld world.old }
+    requires table { MayUseIn world.old (Table t) }
+    requires value { MayUseIn world.old v }
+    ensures runs { (rs : List Value) → Runs world.old world.new rs rs result (table.insert_at (store_in world.old) (table_ref t) (meant world.old.names v) k) }
+    ensures keeps { Keeps world.old world.new }
+{
+    let end = end_of(world.arena.table(t));
+    if !is_place(k, end) {
+        return Err(out_of_range(Builtin::TableInsert, 1));
+    }
+    if world.arena.table(t).is_frozen() {
+        return Err(Ending::RunError(RunErr::ReadonlyTable));
+    }
+    if end.get() + 1 > Whole::GREATEST {
+        return Err(Ending::Stop(Stop::OutOfRange));
+    }
+    let count = count_between(k, end);
+    match table_lists::insert(world.arena.table_mut(t), k.get(), count, v) {
+        Ok(()) => Ok(()),
+        Err(OutOfMemory) => Err(Ending::OutOfMemory),
+    }
+}
