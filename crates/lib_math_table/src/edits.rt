@@ -9,12 +9,13 @@ ghost use Rattle.value_model.specs.declared.value.Value.TheVariants.{Table};
 ghost use Rattle.luau_tables.specs.Worlds.{IsWorld, Keeps, MayUseIn, store_in};
 ghost use Rattle.lib_arguments.specs.Rows.{Runs};
 
+use crate::unpacking::one;
 use lib_arguments::{Ending, any_at, give, number_at, number_or, out_of_range, table_at};
 use luau_tables::LibWorld;
 use resource::OutOfMemory;
-use table_lists::{count_between, end_of, item, put};
+use table_lists::{count_between, end_of, put};
 use value_model::{Builtin, RunErr, TableId, Value};
-use whole_num::{Stop, Whole};
+use whole_num::Whole;
 
 pub(crate) fn insert(args: &[Value], world: &mut LibWorld) -> Result<(), Ending>
     requires world { IsWorld world.old }
@@ -49,9 +50,9 @@ fn append(t: TableId, v: Value, world: &mut LibWorld) -> Result<(), Ending>
     if world.arena.table(t).is_frozen() {
         return Err(Ending::RunError(RunErr::ReadonlyTable));
     }
-    let k = match Whole::new(end_of(world.arena.table(t)).get() + 1) {
-        Some(k) => k,
-        None => return Err(Ending::Stop(Stop::OutOfRange)),
+    let k = match end_of(world.arena.table(t)).add(one()) {
+        Ok(k) => k,
+        Err(stop) => return Err(Ending::Stop(stop)),
     };
     match put(world.arena.table_mut(t), Value::Num(k), v) {
         Ok(()) => Ok(()),
@@ -81,11 +82,11 @@ fn insert_at(t: TableId, k: Whole, v: Value, world: &mut LibWorld) -> Result<(),
     if world.arena.table(t).is_frozen() {
         return Err(Ending::RunError(RunErr::ReadonlyTable));
     }
-    if end.get() + 1 > Whole::GREATEST {
-        return Err(Ending::Stop(Stop::OutOfRange));
+    if let Err(stop) = end.add(one()) {
+        return Err(Ending::Stop(stop));
     }
     let count = count_between(k, end);
-    match table_lists::insert(world.arena.table_mut(t), k.get(), count, v) {
+    match table_lists::insert(world.arena.table_mut(t), k, count, v) {
         Ok(()) => Ok(()),
         Err(OutOfMemory) => Err(Ending::OutOfMemory),
     }

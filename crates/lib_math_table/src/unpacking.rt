@@ -53,7 +53,7 @@ pub(crate) fn unpack(
     if count > MOST_VALUES {
         return Err(Ending::RunError(RunErr::TooManyValues));
     }
-    match items(*results.allocator(), table, first.get(), count) {
+    match items(*results.allocator(), table, first, count) {
         Ok(values) => give_all(results, values.as_slice()),
         Err(OutOfMemory) => Err(Ending::OutOfMemory),
     }

@@ -152,3 +152,9 @@ first_items t k k' i n e l = ap (λ k. items t k i) e ∙ sym (take_items t k' i
 pub began_all : (r : Result (Unit {0}) OutOfMemory) (now t u : TableView) (k : ℤ) (vs : List Value) → OnErr r (now ≡ t) → t ≡ put_all u k vs → OnErr r (Began u now k vs)
 began_all (Ok done) now t u k vs e h = tt
 began_all (Err x) now t u k vs e h = record { count = length vs; is = e ∙ h ∙ ap (λ vs. put_all u k vs) (sym (take-length vs)) }
+
+pub began_insert : (r : Result (Unit {0}) OutOfMemory) (now t u : TableView) (k l : ℤ) (n : ℕ) → OnErr r (now ≡ t) → t ≡ put_all u (k +ℤ pos 1) (items u k n) → k ≡ l → OnErr r (Began u now (l +ℤ pos 1) (items u l n))
+began_insert r now t u k l n e h is = subst (λ k. OnErr r (Began u now (k +ℤ pos 1) (items u k n))) is (began_all r now t u (k +ℤ pos 1) (items u k n) e h)
+
+pub began_remove : (r : Result (Unit {0}) OutOfMemory) (now t u : TableView) (k l : ℤ) (n : ℕ) → OnErr r (now ≡ t) → t ≡ put_all u k (items u (k +ℤ pos 1) n) → k ≡ l → OnErr r (Began u now l (items u (l +ℤ pos 1) n))
+began_remove r now t u k l n e h is = subst (λ k. OnErr r (Began u now k (items u (k +ℤ pos 1) n))) is (began_all r now t u k (items u (k +ℤ pos 1) n) e h)

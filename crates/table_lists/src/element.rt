@@ -20,8 +20,8 @@ pub fn is_nil(value: &Value) -> bool
     matches!(value, Value::Nil)
 }
 
-/// The element under a whole number, else nil.
-pub fn item(table: &Table, k: i64) -> Value
+// The element under a whole number, else nil.
+pub(crate) fn item(table: &Table, k: i64) -> Value
     requires { IsWhole k }
     ensures { result ≡ item table.now k }
 {

@@ -8,7 +8,7 @@ mod search;
 mod shift;
 
 pub use copy::{clear, entries, put_entries};
-pub use element::{count_between, end_of, is_nil, item, put};
-pub use range::{fill, items, put_all, put_number};
+pub use element::{count_between, end_of, is_nil, put};
+pub use range::{fill, items, put_all};
 pub use search::find;
 pub use shift::{insert, remove};

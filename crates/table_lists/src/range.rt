@@ -1,6 +1,6 @@
 //! Elements in a row.
 
-ghost use Rattle.std.specs.Prelude.{◌≡◌, ◌+◌, ◌^◌, ◌≤◌, pos, neg_ℤ, ◌+ℤ◌, ◌≤ℤ◌, length, replicate, OnOk, OnErr, IfOk};
+ghost use Rattle.std.specs.Prelude.{◌≡◌, ◌+◌, ◌^◌, ◌≤◌, pos, ◌+ℤ◌, ◌≤ℤ◌, length, replicate, OnOk, OnErr, IfOk};
 ghost use Rattle.luau_tables.specs.Rules as rule;
 ghost use Rattle.table_lists.specs.Lists.{items, put_all, Began};
 ghost use Rattle.value_model.specs.declared.value.Value.TheVariants.{Num};
@@ -14,27 +14,25 @@ use value_model::Value;
 use whole_num::Whole;
 
 /// The values under so many numbers from one on.
-pub fn items(alloc: Global, table: &Table, first: i64, count: usize) -> Result<Vec<Value>, OutOfMemory>
-    requires low { neg_ℤ (pos (2 ^ 53)) ≤ℤ first }
-    requires high { (first +ℤ pos count) ≤ℤ pos (2 ^ 53 + 1) }
+pub fn items(alloc: Global, table: &Table, first: Whole, count: usize) -> Result<Vec<Value>, OutOfMemory>
+    requires { (first +ℤ pos count) ≤ℤ pos (2 ^ 53 + 1) }
     ensures { IfOk result (λ vs. vs.items ≡ items table.now first count) }
 {
     let mut values = Vec::new(alloc);
     for step in 0..count {
-        values.push(item(table, first + step as i64))?;
+        values.push(item(table, first.get() + step as i64))?;
     }
     Ok(values)
 }
 
 /// Writes values under the numbers from one on, which are all in range.
-pub fn put_all(table: &mut Table, first: i64, values: &[Value]) -> Result<(), OutOfMemory>
-    requires low { neg_ℤ (pos (2 ^ 53)) ≤ℤ first }
-    requires high { (first +ℤ pos (length values.now)) ≤ℤ pos (2 ^ 53 + 1) }
+pub fn put_all(table: &mut Table, first: Whole, values: &[Value]) -> Result<(), OutOfMemory>
+    requires { (first +ℤ pos (length values.now)) ≤ℤ pos (2 ^ 53 + 1) }
     ensures ok { OnOk result (table.new ≡ put_all table.old first values.now) }
     ensures err { OnErr result (Began table.old table.new first values.now) }
 {
     for (step, v) in values.iter().enumerate() {
-        put_number(table, first + step as i64, *v)?;
+        put_number(table, first.get() + step as i64, *v)?;
     }
     Ok(())
 }
@@ -52,8 +50,8 @@ pub fn fill(table: &mut Table, count: usize, v: Value) -> Result<(), OutOfMemory
     Ok(())
 }
 
-/// Writes the value under a number that is in range.
-pub fn put_number(table: &mut Table, k: i64, v: Value) -> Result<(), OutOfMemory>
+// Writes the value under a number that is in range.
+pub(crate) fn put_number(table: &mut Table, k: i64, v: Value) -> Result<(), OutOfMemory>
     requires { IsWhole k }
     ensures ok { OnOk result (table.new ≡ rule.put table.old (Num k) v) }
     ensures err { OnErr result (table.new ≡ table.old) }

@@ -8,27 +8,26 @@ use crate::range::put_number;
 use resource::OutOfMemory;
 use value_arena::Table;
 use value_model::Value;
+use whole_num::Whole;
 
 /// Puts a value under a number. So many elements from there on move one place up.
-pub fn insert(table: &mut Table, k: i64, count: usize, v: Value) -> Result<(), OutOfMemory>
-    requires low { neg_ℤ (pos (2 ^ 53)) ≤ℤ k }
-    requires high { (k +ℤ pos count) ≤ℤ pos (2 ^ 53) }
+pub fn insert(table: &mut Table, k: Whole, count: usize, v: Value) -> Result<(), OutOfMemory>
+    requires { (k +ℤ pos count) ≤ℤ pos (2 ^ 53) }
     ensures ok { OnOk result (table.new ≡ inserted table.old k count v) }
     ensures err { OnErr result (Began table.old table.new (k +ℤ pos 1) (items table.old k count)) }
 {
-    shift_up(table, k, count)?;
-    put_number(table, k, v)
+    shift_up(table, k.get(), count)?;
+    put_number(table, k.get(), v)
 }
 
 /// Takes out the element under a number. So many elements behind it move one place down, and nil stands where the last one was.
-pub fn remove(table: &mut Table, k: i64, count: usize) -> Result<(), OutOfMemory>
-    requires low { neg_ℤ (pos (2 ^ 53)) ≤ℤ k }
-    requires high { (k +ℤ pos count) ≤ℤ pos (2 ^ 53) }
+pub fn remove(table: &mut Table, k: Whole, count: usize) -> Result<(), OutOfMemory>
+    requires { (k +ℤ pos count) ≤ℤ pos (2 ^ 53) }
     ensures ok { OnOk result (table.new ≡ removed table.old k count) }
     ensures err { OnErr result (Began table.old table.new k (items table.old (k +ℤ pos 1) count)) }
 {
-    shift_down(table, k, count)?;
-    put_number(table, k + count as i64, Value::Nil)
+    shift_down(table, k.get(), count)?;
+    put_number(table, k.get() + count as i64, Value::Nil)
 }
 
 // Moves so many elements from a number on one place up. What stood behind the last is written over.

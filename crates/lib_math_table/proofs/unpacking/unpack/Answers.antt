@@ -1,5 +1,4 @@
 use Rattle.std.proofs.Common.{◌≡◌, ◌∙◌, pos, ap, sym, refl, arith}
-use Rattle.std.proofs.lemmas.Int.{ints}
 use Rattle.value_model.specs.declared.error.RunErr.TheVariants.{TooManyValues}
 use Rattle.value_arena.specs.Arenas.{table_at}
 use Rattle.value_arena.specs.Tables.{TableView}
@@ -57,4 +56,4 @@ returns-in-Ok-items c =
     same_runs w w _ _ r _ _ (unpack_is w c.requires.world c.in-Ok.t may _ c.one.result c.end_of.result (c.in-Ok.ensures.checks w.names) c.one.ensures end)
     (found _ w w _ _ r c.in-Ok-number_or.ensures (found _ w w _ _ r c.in-Ok-number_or-2.ensures
     (unpack_gives w c.requires.world c.in-Ok.t may c.in-Ok-number_or.n _ _ _ c.as_slice.result.now r (omega (arith, c.if-count-gt-MOST_VALUES.false, c.count_between-count.ensures))
-    (items_at _ (table_at w.arena c.in-Ok.t) _ c.in-Ok-number_or.n _ _ c.as_slice.result.now (c.as_slice.ensures.value ∙ c.in-Ok-items.ensures) c.table-table.ensures (omega (arith, ints)) c.count_between-count.ensures) c.give_all.ensures)))
+    (items_at _ (table_at w.arena c.in-Ok.t) _ c.in-Ok-number_or.n _ _ c.as_slice.result.now (c.as_slice.ensures.value ∙ c.in-Ok-items.ensures) c.table-table.ensures refl c.count_between-count.ensures) c.give_all.ensures)))

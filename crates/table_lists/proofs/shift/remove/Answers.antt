@@ -1,11 +1,8 @@
-use Rattle.std.proofs.Common.{OnErr, pos, ◌+ℤ◌, w64, subst}
-use Rattle.std.proofs.lemmas.Int.{to_z-of_z}
-use Rattle.table_lists.specs.Lists.{items, Began}
-use Rattle.table_lists.proofs.Rows.{began_all}
+use Rattle.std.proofs.Common.{◌≡◌, arith}
+use Rattle.std.proofs.lemmas.Int.{ints}
+use Rattle.table_lists.proofs.Rows.{began_remove}
 use Rattle.table_lists.proofs.shift.remove.Goals as goal
 
 pub returns-clause-err : goal.returns-clause-err
 returns-clause-err c =
-    let t = c.args.table.now in
-    subst (λ k. OnErr c.put_number.result (Began t c.put_number.new.table k (items t (k +ℤ pos 1) c.args.count))) (to_z-of_z w64 c.args.k c.ranges.k)
-    (began_all c.put_number.result c.put_number.new.table c.shift_down.new.table t _ _ c.put_number.ensures.err c.in_ok-shift_down.ensures.ok)
+    began_remove c.put_number.result c.put_number.new.table c.shift_down.new.table c.args.table.now _ c.args.k c.args.count c.put_number.ensures.err c.in_ok-shift_down.ensures.ok (omega (arith, ints))
