@@ -2,6 +2,8 @@
 
 ghost use Rattle.std.specs.Prelude.{◌≡◌, ◌+ℤ◌, ◌&&◌, int_le, List, map, pos};
 ghost use Rattle.std.specs.List.{AllByRecursion};
+ghost use Rattle.luau_tables.specs.Rules as rule;
+ghost use Rattle.value_arena.specs.Arenas.{table_at};
 ghost use Rattle.value_model.specs.Parts.{meant, table_ref};
 ghost use Rattle.value_model.specs.TableRows as table;
 ghost use Rattle.value_model.specs.declared.value.Value.{Value};
@@ -88,6 +90,62 @@ fn insert_at(t: TableId, k: Whole, v: Value, world: &mut LibWorld) -> Result<(),
     let count = count_between(k, end);
     match table_lists::insert(world.arena.table_mut(t), k, count, v) {
         Ok(()) => Ok(()),
+        Err(OutOfMemory) => Err(Ending::OutOfMemory),
+    }
+}
+
+pub(crate) fn remove(
+    args: &[Value],
+    world: &mut LibWorld,
+    results: &mut Vec<Value>,
+) -> Result<(), Ending>
+    requires world { IsWorld world.old }
+    requires args { AllByRecursion (MayUseIn world.old) args.now }
+    ensures runs { Runs world.old world.new results.old.items results.new.items result (table.remove_row (map (meant world.old.names) args.now) (store_in world.old)) }
+    ensures keeps { Keeps world.old world.new }
+{
+    let t = match table_at(Builtin::TableRemove, 0, args) {
+        Ok(t) => t,
+        Err(e) => return Err(e),
+    };
+    let end = end_of(world.arena.table(t));
+    match number_or(Builtin::TableRemove, 1, &world.names, args, end) {
+        Ok(k) => remove_at(t, k, end, world, results),
+        Err(e) => Err(e),
+    }
+}
+
+// Whether a number is at least 1 and at most another.
+fn is_element(k: Whole, end: Whole) -> bool
+    ensures { result ≡ (int_le (pos 1) k && int_le k end) }
+{
+    1 <= k.get() && k.get() <= end.get()
+}
+
+// Takes out the element in a place, to which the others move down. The border is known.
+fn remove_at(
+    t: TableId,
+    k: Whole,
+    end: Whole,
+    world: &mut LibWorld,
+    results: &mut Vec<Value>,
+) -> Result<(), Ending>
+    requires world { IsWorld world.old }
+    requires table { MayUseIn world.old (Table t) }
+    requires border { end ≡ pos (rule.border (table_at world.old.arena t)) }
+    ensures runs { Runs world.old world.new results.old.items results.new.items result (table.remove_at (store_in world.old) (table_ref t) k) }
+    ensures keeps { Keeps world.old world.new }
+{
+    if world.arena.table(t).is_frozen() {
+        return Err(Ending::RunError(RunErr::ReadonlyTable));
+    }
+    if !is_element(k, end) {
+        return give(results, Value::Nil);
+    }
+    let v = world.arena.table(t).value(Value::Num(k));
+    let count = (end.get() - k.get()) as usize;
+    match table_lists::remove(world.arena.table_mut(t), k, count) {
+        Ok(()) => give(results, v),
         Err(OutOfMemory) => Err(Ending::OutOfMemory),
     }
 }

@@ -1,6 +1,7 @@
-use Rattle.std.proofs.Common.{◌≡◌, ◌≤◌, length, slice_get, Some, None, map, arith, rules}
+use Rattle.std.proofs.Common.{◌<◌, ◌≤◌, ◌∙◌, length, Some, ap, sym, arith}
+use Rattle.std.proofs.lemmas.Bool.Decides.{nat_tests}
 use Rattle.std.proofs.lemmas.Grind.{common_steps}
-use Rattle.std.proofs.lemmas.Option.{slice_get_past}
+use Rattle.std.proofs.lemmas.Option.{slice_get_past, slice_get-get_or}
 use Rattle.value_model.specs.Parts.{meant, table_ref}
 use Rattle.luau_tables.specs.Worlds.{store_in}
 use Rattle.lib_arguments.proofs.Looks.{meant_at, absent_at}
@@ -42,7 +43,8 @@ pub returns-in-Ok-number_at-clause-runs : goal.returns-in-Ok-number_at-clause-ru
 returns-in-Ok-number_at-clause-runs c rs =
     let w = c.args.world.now in
     let r = c.insert_at.result in
-    let at : slice_get c.args.args.now 2 ≡ Some c.in-Some.v.now = search rules in
+    let within : 2 < length c.args.args.now = grind (arith, nat_tests) in
+    let at = slice_get-get_or c.args.args.now 2 c.in-Some.v.now within ∙ ap (λ v. Some v) (sym c.in-Some.ensures.lookup.1) in
     same_runs w c.insert_at.new.world rs rs r _ _ (with_place _ (store_in w) (table_ref c.in-Ok.t) (meant w.names c.in-Some.v.now) (c.in-Ok.ensures.checks w.names) (meant_at w.names c.args.args.now 2 c.in-Some.v.now at))
     (found _ w c.insert_at.new.world rs rs r c.in-Ok-number_at.ensures (c.insert_at.ensures.runs rs))
 
@@ -50,5 +52,6 @@ pub returns-in-Err-number_at-clause-runs : goal.returns-in-Err-number_at-clause-
 returns-in-Err-number_at-clause-runs c rs =
     let w = c.args.world.now in
     let e = c.in-Err-number_at.e in
-    let at : slice_get c.args.args.now 2 ≡ Some c.in-Some.v.now = search rules in
+    let within : 2 < length c.args.args.now = grind (arith, nat_tests) in
+    let at = slice_get-get_or c.args.args.now 2 c.in-Some.v.now within ∙ ap (λ v. Some v) (sym c.in-Some.ensures.lookup.1) in
     ends w rs e _ (same_fails w.names _ _ e (with_place _ (store_in w) (table_ref c.in-Ok.t) (meant w.names c.in-Some.v.now) (c.in-Ok.ensures.checks w.names) (meant_at w.names c.args.args.now 2 c.in-Some.v.now at)) (c.in-Err-number_at.ensures _))
