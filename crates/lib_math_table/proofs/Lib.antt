@@ -2,3 +2,4 @@ pub mod Changes
 pub mod Giving
 pub mod Inserting
 pub mod Lists
+pub mod Removing

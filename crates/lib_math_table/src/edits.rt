@@ -1,6 +1,6 @@
 //! `table.insert` and `table.remove`.
 
-ghost use Rattle.std.specs.Prelude.{◌≡◌, ◌+ℤ◌, ◌&&◌, int_le, List, map, pos};
+ghost use Rattle.std.specs.Prelude.{◌≡◌, ◌+ℤ◌, ◌-ℤ◌, ◌≤ℤ◌, ◌&&◌, int_le, List, map, pos};
 ghost use Rattle.std.specs.List.{AllByRecursion};
 ghost use Rattle.luau_tables.specs.Rules as rule;
 ghost use Rattle.value_arena.specs.Arenas.{table_at};
@@ -122,6 +122,14 @@ fn is_element(k: Whole, end: Whole) -> bool
     1 <= k.get() && k.get() <= end.get()
 }
 
+// How many whole numbers follow one up to another that is not below it.
+fn count_behind(k: Whole, end: Whole) -> usize
+    requires { k ≤ℤ end }
+    ensures { pos result ≡ end -ℤ k }
+{
+    (end.get() - k.get()) as usize
+}
+
 // Takes out the element in a place, to which the others move down. The border is known.
 fn remove_at(
     t: TableId,
@@ -143,7 +151,7 @@ fn remove_at(
         return give(results, Value::Nil);
     }
     let v = world.arena.table(t).value(Value::Num(k));
-    let count = (end.get() - k.get()) as usize;
+    let count = count_behind(k, end);
     match table_lists::remove(world.arena.table_mut(t), k, count) {
         Ok(()) => give(results, v),
         Err(OutOfMemory) => Err(Ending::OutOfMemory),
