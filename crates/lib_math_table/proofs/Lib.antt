@@ -2,4 +2,5 @@ pub mod Changes
 pub mod Giving
 pub mod Inserting
 pub mod Lists
+pub mod Moved
 pub mod Removing

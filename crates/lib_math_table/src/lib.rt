@@ -3,5 +3,6 @@
 
 mod edits;
 mod math;
+mod moving;
 mod tables;
 mod unpacking;

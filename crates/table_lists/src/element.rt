@@ -1,6 +1,6 @@
 //! Single elements.
 
-ghost use Rattle.std.specs.Prelude.{◌≡◌, false, pos, OnOk, OnErr};
+ghost use Rattle.std.specs.Prelude.{◌≡◌, ◌+◌, ◌^◌, false, pos, ◌+ℤ◌, ◌≤ℤ◌, OnOk, OnErr};
 ghost use Rattle.luau_tables.specs.Rules as rule;
 ghost use Rattle.table_lists.specs.Lists.{item};
 ghost use Rattle.value_model.specs.StringRows.{count_between};
@@ -45,7 +45,8 @@ pub fn end_of(table: &Table) -> Whole
 
 /// How many whole numbers stand from one to another.
 pub fn count_between(first: Whole, last: Whole) -> usize
-    ensures { result ≡ count_between first last }
+    ensures count { result ≡ count_between first last }
+    ensures within { (first +ℤ pos result) ≤ℤ pos (2 ^ 53 + 1) }
 {
     let count = last.get() - first.get() + 1;
     if count < 0 { 0 } else { count as usize }

@@ -44,7 +44,7 @@ returns-in-Ok-clause-runs c rs =
     let end : c.end_of-end.result ≡ pos (rule.border (table_at w.arena c.args.t)) = c.end_of-end.ensures ∙ ap (λ (t : TableView). pos (rule.border t)) c.table.ensures in
     let place = c.if-not-is_place.ensures ∙ ap (λ e. int_le (pos 1) c.args.k && int_le c.args.k (e +ℤ pos 1)) end in
     let fits = sum_fits c.add.result (pos (rule.border (table_at w.arena c.args.t)) +ℤ pos 1) (sum_is c.add.result _ _ _ (pos 1) c.add.ensures end c.one.ensures) c.in_default.not-Err in
-    let count = c.count_between-count.ensures ∙ ap (count_between c.args.k) end in
+    let count = c.count_between-count.ensures.count ∙ ap (count_between c.args.k) end in
     none_given w (with_changed w c.args.t c.insert.new.table) rs tt _
     (insert_is w c.requires.world c.args.t c.requires.table c.insert.new.table c.args.v c.args.k _ place thawed fits count (c.in-Ok.ensures.ok ∙ ap (λ t. inserted t c.args.k c.count_between-count.result c.args.v) c.table_mut.ensures.value))
 

@@ -45,7 +45,7 @@ returns-then-count-gt-MOST_VALUES c =
     let end : c.end_of.result ≡ pos (rule.border (table_at w.arena c.in-Ok.t)) = c.end_of.ensures ∙ ap (λ (t : TableView). pos (rule.border t)) c.table-table.ensures in
     ends w _ e _ (same_fails w.names _ _ e (unpack_is w c.requires.world c.in-Ok.t may _ c.one.result c.end_of.result (c.in-Ok.ensures.checks w.names) c.one.ensures end)
     (found_fails _ w.names e c.in-Ok-number_or.ensures (found_fails _ w.names e c.in-Ok-number_or-2.ensures
-    (unpack_fails w c.requires.world c.in-Ok.t may c.in-Ok-number_or.n _ (omega (arith, c.if-count-gt-MOST_VALUES.true, c.count_between-count.ensures))))))
+    (unpack_fails w c.requires.world c.in-Ok.t may c.in-Ok-number_or.n _ (omega (arith, c.if-count-gt-MOST_VALUES.true, c.count_between-count.ensures.count))))))
 
 pub returns-in-Ok-items : goal.returns-in-Ok-items
 returns-in-Ok-items c =
@@ -55,5 +55,5 @@ returns-in-Ok-items c =
     let end : c.end_of.result ≡ pos (rule.border (table_at w.arena c.in-Ok.t)) = c.end_of.ensures ∙ ap (λ (t : TableView). pos (rule.border t)) c.table-table.ensures in
     same_runs w w _ _ r _ _ (unpack_is w c.requires.world c.in-Ok.t may _ c.one.result c.end_of.result (c.in-Ok.ensures.checks w.names) c.one.ensures end)
     (found _ w w _ _ r c.in-Ok-number_or.ensures (found _ w w _ _ r c.in-Ok-number_or-2.ensures
-    (unpack_gives w c.requires.world c.in-Ok.t may c.in-Ok-number_or.n _ _ _ c.as_slice.result.now r (omega (arith, c.if-count-gt-MOST_VALUES.false, c.count_between-count.ensures))
-    (items_at _ (table_at w.arena c.in-Ok.t) _ c.in-Ok-number_or.n _ _ c.as_slice.result.now (c.as_slice.ensures.value ∙ c.in-Ok-items.ensures) c.table-table.ensures refl c.count_between-count.ensures) c.give_all.ensures)))
+    (unpack_gives w c.requires.world c.in-Ok.t may c.in-Ok-number_or.n _ _ _ c.as_slice.result.now r (omega (arith, c.if-count-gt-MOST_VALUES.false, c.count_between-count.ensures.count))
+    (items_at _ (table_at w.arena c.in-Ok.t) _ c.in-Ok-number_or.n _ _ c.as_slice.result.now (c.as_slice.ensures.value ∙ c.in-Ok-items.ensures) c.table-table.ensures refl c.count_between-count.ensures.count) c.give_all.ensures)))

@@ -6,5 +6,5 @@ use Rattle.table_lists.proofs.element.count_between.Goals as goal
 natural_is : (n : ℕ) (z : ℤ) → pos n ≡ z → n ≡ natural z
 natural_is n z e = ap natural e
 
-pub returns-else-count-lt0 : goal.returns-else-count-lt0
-returns-else-count-lt0 c = natural_is _ ((c.args.last -ℤ c.args.first) +ℤ pos 1) (omega (arith, ints))
+pub returns-else-count-lt0-clause-count : goal.returns-else-count-lt0-clause-count
+returns-else-count-lt0-clause-count c = natural_is _ ((c.args.last -ℤ c.args.first) +ℤ pos 1) (omega (arith, ints))
