@@ -1,5 +1,13 @@
 //! The functions of the global table.
 #![tactic(auto)]
 
+mod calls;
 mod kinds;
+mod metatable;
+mod raise;
 mod raw;
+mod select;
+mod texts;
+mod walk;
+
+pub use calls::call;

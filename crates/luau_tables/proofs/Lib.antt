@@ -1,8 +1,10 @@
+pub mod FirstPart
 pub mod MoreTexts
 pub mod NewTables
 pub mod OwnKept
 pub mod OwnTables
 pub mod PartKept
+pub mod PartLaws
 pub mod Sameness
 pub mod StoreTables
 pub mod TablesKept

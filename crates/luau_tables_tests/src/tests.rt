@@ -3,8 +3,8 @@ ghost use Rattle.value_arena.specs.Arenas.{HasTable};
 
 use byte_text::{Interner, StrId};
 use luau_tables::{
-    Globals, LibWorld, MetaErr, MetaNames, NextErr, SetErr, border, frozen, get, next, plain_into,
-    set, set_meta,
+    Globals, LibWorld, MetaErr, MetaNames, NextErr, SetErr, border, frozen, get, next,
+    part_is_changed, part_is_kept, part_is_read, plain_into, set, set_meta,
 };
 use resource::Steps;
 use std::marker::Brand;
@@ -12,7 +12,7 @@ use std::process::Abort;
 use std::sync::ledger::{Blank, Ledger};
 use std::test::Fail;
 use value_arena::Arena;
-use value_model::{Builtin, HostId, Owner, TableId, Value};
+use value_model::{Builtin, HostId, Owner, ShortOwner, TableId, Value};
 use whole_num::Whole;
 
 // A whole number as a value.
@@ -138,38 +138,79 @@ fn list<L: Ledger>(rt: &(impl Abort + AllocGlobal), blank: Blank) -> Result<(), 
     Ok(())
 }
 
+// Stores an item in one table, beside which another one stays empty.
+fn store_one<L: Ledger>(
+    rt: &impl Abort,
+    arena: &mut Arena,
+    t: TableId,
+    other: TableId,
+    steps: &mut Steps<L>,
+)
+    requires there { HasTable arena.old t }
+    requires other { HasTable arena.old other }
+{
+    let done = set(arena, t, number(1), number(7), steps);
+    assert_eq!(rt; done, Ok(()));
+    assert_eq!(rt; border(arena, t), 1);
+    assert_eq!(rt; border(arena, other), 0);
+}
+
+// Two scripts have tables in one arena.
+fn parts<L: Ledger>(rt: &(impl Abort + AllocGlobal), blank: Blank) -> Result<(), Fail>
+    requires name { blank.name ≡ L.name }
+    requires parts { blank.parts ≡ L.parts }
+    requires some { 0 < L.parts }
+{
+    part_is_read();
+    part_is_changed();
+    part_is_kept();
+    let mut steps = Steps::<L>::new(blank);
+    let mut arena = Arena::new(rt.alloc());
+    let other = arena.new_table(Owner::Script(1))?;
+    let t = arena.new_table(Owner::Script(0))?;
+    store_one(rt, &mut arena, t, other, &mut steps);
+    Ok(())
+}
+
 #[test]
 fn walks(rt: HostRuntime) -> Result<(), Fail> {
     stores::<Brand>(&rt, Blank::new(1))?;
-    list::<Brand>(&rt, Blank::new(1))
+    list::<Brand>(&rt, Blank::new(1))?;
+    parts::<Brand>(&rt, Blank::new(1))
 }
 
-// A world of two frozen tables more than the global table and the metatable of strings, and of one host function.
-fn world(rt: &impl AllocGlobal) -> Result<LibWorld, Fail> {
-    let mut arena = Arena::new(rt.alloc());
-    let mut names = Interner::new(rt.alloc());
-    let table = arena.new_table(Owner::Frozen)?;
-    let string_meta = arena.new_table(Owner::Frozen)?;
-    let mut paths = Vec::new(rt.alloc());
-    for path in &["math", "a.1"] {
-        let id = arena.new_table(Owner::Frozen)?;
-        paths.push((id, names.intern(path.as_bytes())?))?;
-    }
-    let mut hosts = Vec::new(rt.alloc());
-    hosts.push(names.intern(b"a.f")?)?;
-    let globals = Globals {
-        table,
-        string_meta,
-        paths,
-        hosts,
-        meta: meta_names(),
+// A world without objects.
+fn no_world(rt: &impl AllocGlobal) -> LibWorld {
+    let none = TableId {
+        owner: ShortOwner::Frozen,
+        place: 0,
     };
-    Ok(LibWorld {
-        arena,
-        names,
+    LibWorld {
+        arena: Arena::new(rt.alloc()),
+        names: Interner::new(rt.alloc()),
         owner: Owner::Script(5),
-        globals,
-    })
+        globals: Globals {
+            table: none,
+            string_meta: none,
+            paths: Vec::new(rt.alloc()),
+            hosts: Vec::new(rt.alloc()),
+            meta: meta_names(),
+        },
+    }
+}
+
+// Gives it the global table and the metatable of strings, two tables more, and one host function.
+fn fill(world: &mut LibWorld) -> Result<(), Fail> {
+    world.globals.table = world.arena.new_table(Owner::Frozen)?;
+    world.globals.string_meta = world.arena.new_table(Owner::Frozen)?;
+    for path in &["math", "a.1"] {
+        let id = world.arena.new_table(Owner::Frozen)?;
+        let text = world.names.intern(path.as_bytes())?;
+        world.globals.paths.push((id, text))?;
+    }
+    let text = world.names.intern(b"a.f")?;
+    world.globals.hosts.push(text)?;
+    Ok(())
 }
 
 fn meta_names() -> MetaNames {
@@ -197,9 +238,8 @@ fn meta_names() -> MetaNames {
     }
 }
 
-#[test]
-fn texts(rt: HostRuntime) -> Result<(), Fail> {
-    let mut world = world(&rt)?;
+// Makes objects of a script, and shows values of each kind.
+fn show(rt: &(impl Abort + AllocGlobal), world: &mut LibWorld) -> Result<(), Fail> {
     let owner = Owner::Script(5);
     let env = world.arena.new_table(owner)?;
     let env_meta = world.arena.new_table(owner)?;
@@ -254,4 +294,11 @@ fn texts(rt: HostRuntime) -> Result<(), Fail> {
         assert_eq!(rt; out.as_slice(), text.as_bytes());
     }
     Ok(())
+}
+
+#[test]
+fn texts(rt: HostRuntime) -> Result<(), Fail> {
+    let mut world = no_world(&rt);
+    fill(&mut world)?;
+    show(&rt, &mut world)
 }
