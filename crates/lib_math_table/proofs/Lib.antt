@@ -2,5 +2,6 @@ pub mod Changes
 pub mod Giving
 pub mod Inserting
 pub mod Lists
+pub mod Made
 pub mod Moved
 pub mod Removing

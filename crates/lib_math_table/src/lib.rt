@@ -3,6 +3,7 @@
 
 mod edits;
 mod math;
+mod making;
 mod moving;
 mod tables;
 mod unpacking;

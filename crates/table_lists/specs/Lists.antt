@@ -1,11 +1,10 @@
 -- Tables as lists: the elements under numbers, on values as a program keeps them.
-use Rattle.std.specs.Prelude.{◌≡◌, ℕ, zero, suc, ◌^◌, ℤ, pos, neg_ℤ, ◌+ℤ◌, ◌-ℤ◌, not, List, [], ◌∷◌, map, filter, take, false, true, cond, Option, Some, None}
+use Rattle.std.specs.Prelude.{◌≡◌, ℕ, zero, suc, ◌^◌, ℤ, pos, neg_ℤ, ◌+ℤ◌, ◌-ℤ◌, not, List, [], ◌∷◌, map, filter, take, cond, Option, Some, None}
 use Rattle.value_model.specs.Pairs as pairs
 use Rattle.value_model.specs.StringRows as model
 use Rattle.value_model.specs.declared.value.Value.{Value}
 use Rattle.value_model.specs.declared.value.Value.TheVariants.{Nil, Num}
 use Rattle.value_arena.specs.Tables.{Entries, TableView, same, is_nil, number, value_in}
-use Rattle.whole_num.specs.Whole.{is_whole}
 use Rattle.luau_tables.specs.Rules as rule
 
 -- ---- elements
@@ -60,7 +59,3 @@ pub record BeganPairs (before after : TableView) (es : Entries) : Type 0 where
 abbrev pub found : (most : ℕ) → TableView → Value → ℤ → Option ℤ
 found zero t v k = None
 found (suc most) t v k = cond (is_nil (item t k)) None (cond (same (item t k) v) (Some k) (found most t v (k +ℤ pos 1)))
-
--- no number out of range has a value
-abbrev pub EndsWhole : TableView → Type 0
-EndsWhole t = (z : ℤ) → is_whole z ≡ false → is_nil (item t z) ≡ true
