@@ -1,4 +1,5 @@
 pub mod Changes
+pub mod Finding
 pub mod Giving
 pub mod Inserting
 pub mod Lists

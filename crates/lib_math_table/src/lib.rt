@@ -5,5 +5,6 @@ mod edits;
 mod math;
 mod making;
 mod moving;
+mod search;
 mod tables;
 mod unpacking;
