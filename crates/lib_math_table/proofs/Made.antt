@@ -151,3 +151,29 @@ create_fits s n i v given l e f =
     ap (λ i. rows.creates s i given (nat_le i rows.most_elements)) (sym e)
     ∙ ap (rows.creates s n given) (few n rows.most_elements l)
     ∙ ap (λ v. string.new_table s (rows.filled_table n v)) (sym f)
+
+pub is_new : (w : LibWorld) (a : ArenaView) (id : TableId) → a ≡ new_table w.arena w.owner → id ≡ next_table w.arena w.owner → HasTable a id → table_at a id ≡ no_table
+is_new w a id e f h = at_new w (λ a id. table_at a id ≡ no_table) a id e f (new_table_at w.arena w.owner (there_is w a id e f h))
+
+module _ (w : LibWorld) (world : IsWorld w) (a : ArenaView) (id : TableId) where
+  pub empty_at : (y : store.TableOf) (rs rs' : List Value) (result : Result (Unit {0}) Ending) → a ≡ new_table w.arena w.owner → id ≡ next_table w.arena w.owner → HasTable a id → y ≡ store.empty_table → Gives rs rs' (value.Table id ∷ []) result → Runs w (with_arena w a) rs rs' result (string.new_table (store_in w) y)
+  empty_at y rs rs' result e f h is =
+      at_new w (λ a id. Gives rs rs' (value.Table id ∷ []) result → Runs w (with_arena w a) rs rs' result (string.new_table (store_in w) y)) a id e f
+      (λ given. subst (λ y. Runs w (with_new w) rs rs' result (string.new_table (store_in w) y)) (sym is) (empty_runs w world (there_is w a id e f h) rs rs' result given))
+
+  pub made_at : (x x' : TableView) (y : store.TableOf) (rs rs' : List Value) (result : Result (Unit {0}) Ending) → a ≡ new_table w.arena w.owner → id ≡ next_table w.arena w.owner → HasTable a id → x ≡ x' → Keeps (with_new w) (made w x') → y ≡ table_of w.names x' → Gives rs rs' (value.Table id ∷ []) result → Runs w (with_arena w (with_table a id x)) rs rs' result (string.new_table (store_in w) y)
+  made_at x x' y rs rs' result e f h is keeps meant_is =
+      at_new w (λ a id. Gives rs rs' (value.Table id ∷ []) result → Runs w (with_arena w (with_table a id x)) rs rs' result (string.new_table (store_in w) y)) a id e f
+      (λ given. subst (λ (x : TableView). Runs w (made w x) rs rs' result (string.new_table (store_in w) y)) (sym is) (made_runs w world (there_is w a id e f h) x' y rs rs' result keeps meant_is given))
+
+  pub kept_at : (x x' : TableView) → a ≡ new_table w.arena w.owner → id ≡ next_table w.arena w.owner → x ≡ x' → Keeps (with_new w) (made w x') → Keeps w (with_arena w (with_table a id x))
+  kept_at x x' e f is keeps =
+      at_new w (λ a id. Keeps w (with_arena w (with_table a id x))) a id e f
+      (subst (λ (x : TableView). Keeps w (made w x)) (sym is) (keeps_on w (with_new w) (made w x') (new_table_keeps w world) keeps))
+
+  pub began_at : (x : TableView) (from : ℤ) (vs : List Value) → a ≡ new_table w.arena w.owner → id ≡ next_table w.arena w.owner → HasTable a id → AllByRecursion (MayUseIn w) vs → Began no_table x from vs → Keeps w (with_arena w (with_table a id x))
+  began_at x from vs e f h used b =
+      at_new w (λ a id. Keeps w (with_arena w (with_table a id x))) a id e f (began_keep w world (there_is w a id e f h) x from vs used b)
+
+pub again_used : (w : LibWorld) (n : ℕ) (v : Value) → MayUseIn w v → AllByRecursion (MayUseIn w) (replicate n v)
+again_used w n v h = kept.replicate_holds (MayUseIn w) (tt, tt) (λ z. (tt, tt)) n v h
