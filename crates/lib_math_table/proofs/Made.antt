@@ -1,10 +1,12 @@
 -- Rows that make a table.
-use Rattle.std.proofs.Common.{◌≡◌, ℕ, zero, suc, ◌<◌, ◌≤◌, ℤ, pos, Bool, true, false, List, [], ◌∷◌, map, take, Result, refl, sym, ◌∙◌, ap, subst}
+use Rattle.std.proofs.Common.{◌≡◌, ℕ, zero, suc, ◌<◌, ◌≤◌, ℤ, pos, Bool, true, false, List, [], ◌∷◌, map, length, take, slice_get, Some, Result, Ok, Err, refl, sym, ◌∙◌, ap, subst}
 use Rattle.std.proofs.Math.ListN.{replicate}
+use Rattle.std.proofs.lemmas.List.{length-map}
+use Rattle.std.proofs.lemmas.Option.{get_or_from_slice_get, slice_get_within}
 use Rattle.std.specs.List.{AllByRecursion}
-use Rattle.std.specs.Prelude.{nat_le}
+use Rattle.std.specs.Prelude.{nat_le, codes}
 use Rattle.value_model.specs.Answers as model
-use Rattle.value_model.specs.Parts.{meant, meant_error, table_ref}
+use Rattle.value_model.specs.Parts.{meant, meant_error, table_ref, bytes_at}
 use Rattle.value_model.specs.Store as store
 use Rattle.value_model.specs.StringRows as string
 use Rattle.value_model.specs.TableRows as rows
@@ -20,13 +22,16 @@ use Rattle.value_arena.proofs.Growing.{new_table_at}
 use Rattle.luau_tables.specs.Part.{table_of, OfTable, IsOfScript}
 use Rattle.luau_tables.specs.Worlds.{IsWorld, Keeps, MayUseIn, store_in}
 use Rattle.luau_tables.specs.declared.globals.LibWorld.{LibWorld}
+use Rattle.luau_tables.specs.Rules as rule
+use Rattle.luau_tables.proofs.TablesKept.{put_holds, put_kept}
+use Rattle.byte_text.specs.declared.fixed.StrId.{StrId}
 use Rattle.luau_tables.proofs.NewTables.{new_table_written}
 use Rattle.luau_tables.proofs.OwnKept.{changed_part}
 use Rattle.luau_tables.proofs.OwnTables.{own_value}
 use Rattle.luau_tables.proofs.WorldsKept.{keeps_on, may_use_on, all_use_on, new_table_keeps, new_table_store, new_table_use, new_table_is}
 use Rattle.value_model.specs.declared.error.RunErr.TheVariants.{TooManyValues}
 use Rattle.lib_arguments.specs.Checks.{Fails}
-use Rattle.lib_arguments.specs.Rows.{Runs, Gives}
+use Rattle.lib_arguments.specs.Rows.{Runs, Gives, LeavesStore}
 use Rattle.lib_arguments.specs.declared.ending.Ending.{Ending}
 use Rattle.lib_arguments.specs.declared.ending.Ending.TheVariants.{RunError}
 use Rattle.lib_arguments.proofs.RowsRun.{gives_runs, each_map}
@@ -177,3 +182,37 @@ module _ (w : LibWorld) (world : IsWorld w) (a : ArenaView) (id : TableId) where
 
 pub again_used : (w : LibWorld) (n : ℕ) (v : Value) → MayUseIn w v → AllByRecursion (MayUseIn w) (replicate n v)
 again_used w n v h = kept.replicate_holds (MayUseIn w) (tt, tt) (λ z. (tt, tt)) n v h
+
+-- ---- `pack`
+
+module _ (w : LibWorld) (world : IsWorld w) (there : HasTable (new_table w.arena w.owner) (next_table w.arena w.owner)) (n : StrId) (vs : List Value) (z : ℤ) (is_n : slice_get w.names n.0 ≡ Some (codes "n")) (used : AllByRecursion (MayUseIn w) vs) (count : z ≡ pos (length vs)) where
+  n_within : n.0 < length w.names
+  n_within = slice_get_within w.names n.0 (codes "n") is_n
+
+  pub packed_keeps : Keeps (with_new w) (made w (rule.put (put_all no_table (pos 1) vs) (value.Str n) (value.Num z)))
+  unfolding put_all rule.put
+  packed_keeps =
+      filled_keeps w world there (rule.put (put_all no_table (pos 1) vs) (value.Str n) (value.Num z)) refl
+      (put_holds (MayUseIn (with_new w)) (put_all no_table (pos 1) vs) (value.Str n) (value.Num z) (listed_use w world there (pos 1) vs used) (tt, n_within) (tt, tt))
+
+  pub packed_is : tables.put (tables.put_all store.empty_table (pos 1) (map (meant w.names) vs)) (m.Text (codes "n")) (m.Number (pos (length (map (meant w.names) vs)))) ≡ table_of w.names (rule.put (put_all no_table (pos 1) vs) (value.Str n) (value.Num z))
+  unfolding meant
+  packed_is =
+      let d = world.own.interned.distinct in
+      let own : OfTable (IsOfScript w.names w.owner) (put_all no_table (pos 1) vs) =
+          kept.put_all_holds (IsOfScript w.names w.owner) tt (λ z. tt) no_table (pos 1) vs (record { entries = tt; meta = tt })
+          (each_map (MayUseIn w) (IsOfScript w.names w.owner) (own_value w.names w.globals w.arena w.owner world.own) vs used) in
+      ap (λ y. tables.put y (m.Text (codes "n")) (m.Number (pos (length (map (meant w.names) vs))))) (listed_is w world there (pos 1) vs used)
+      ∙ ap (λ bs. tables.put (table_of w.names (put_all no_table (pos 1) vs)) (m.Text bs) (m.Number (pos (length (map (meant w.names) vs))))) (sym (get_or_from_slice_get w.names n.0 (codes "n") [] is_n))
+      ∙ ap (λ k. tables.put (table_of w.names (put_all no_table (pos 1) vs)) (m.Text (bytes_at w.names n.0)) (m.Number k)) (ap pos (length-map vs (meant w.names)) ∙ sym count)
+      ∙ put_kept w.names w.owner d (put_all no_table (pos 1) vs) (value.Str n) (value.Num z) own n_within
+
+-- a row that runs from a world with more texts runs from the one before
+pub runs_since : (v w u : LibWorld) (rs rs' : List Value) (result : Result (Unit {0}) Ending) (row : model.LibAnswer) → store_in v ≡ store_in w → Runs v u rs rs' result row → Runs w u rs rs' result row
+runs_since v w u rs rs' (Ok done) row e h = record { given = h.given; appended = h.appended; meant = h.meant; stays = tt; usable = tt; values = h.values }
+runs_since v w u rs rs' (Err x) row e h = record { results = h.results; store = subst (λ s. LeavesStore x s (store_in u)) e h.store; fails = h.fails }
+
+pub pack_since : (v w u : LibWorld) (vs : List Value) (rs rs' : List Value) (result : Result (Unit {0}) Ending) → store_in v ≡ store_in w → map (meant v.names) vs ≡ map (meant w.names) vs → Runs v u rs rs' result (rows.pack_row (map (meant v.names) vs) (store_in v)) → Runs w u rs rs' result (rows.pack_row (map (meant w.names) vs) (store_in w))
+pack_since v w u vs rs rs' result e f h =
+    subst (λ row. Runs w u rs rs' result row) (ap (λ s. rows.pack_row (map (meant v.names) vs) s) e ∙ ap (λ args. rows.pack_row args (store_in w)) f)
+    (runs_since v w u rs rs' result (rows.pack_row (map (meant v.names) vs) (store_in v)) e h)

@@ -1,6 +1,6 @@
 //! `table.create` and `table.pack`.
 
-ghost use Rattle.std.specs.Prelude.{◌≡◌, ◌≤◌, Some, map, slice_get, codes};
+ghost use Rattle.std.specs.Prelude.{◌≡◌, ◌^◌, ◌≤◌, pos, Some, IsSome, IfSome, length, map, slice_get, codes};
 ghost use Rattle.std.specs.List.{AllByRecursion};
 ghost use Rattle.value_model.specs.Parts.{meant};
 ghost use Rattle.value_model.specs.StringRows as string;
@@ -14,8 +14,7 @@ use byte_text::StrId;
 use lib_arguments::{Ending, argument_or_nil, give, number_at, text_value};
 use luau_tables::LibWorld;
 use resource::OutOfMemory;
-use table_lists::{fill, is_nil, put_all, put};
-use value_arena::Table;
+use table_lists::{fill, is_nil, put_all_and};
 use value_model::{Builtin, RunErr, Value};
 use whole_num::Whole;
 
@@ -73,4 +72,58 @@ fn filled(
         Ok(()) => give(results, Value::Table(t)),
         Err(OutOfMemory) => Err(Ending::OutOfMemory),
     }
+}
+
+pub(crate) fn pack(
+    args: &[Value],
+    world: &mut LibWorld,
+    results: &mut Vec<Value>,
+) -> Result<(), Ending>
+    requires world { IsWorld world.old }
+    requires args { AllByRecursion (MayUseIn world.old) args.now }
+    ensures runs { Runs world.old world.new results.old.items results.new.items result (table.pack_row (map (meant world.old.names) args.now) (store_in world.old)) }
+    ensures keeps { Keeps world.old world.new }
+{
+    match text_value(&mut world.names, b"n") {
+        Ok(n) => packed(n, args, world, results),
+        Err(OutOfMemory) => Err(Ending::OutOfMemory),
+    }
+}
+
+// Gives a new table of values, with their number under the key `n`. More values than there are whole numbers want memory.
+fn packed(
+    n: StrId,
+    values: &[Value],
+    world: &mut LibWorld,
+    results: &mut Vec<Value>,
+) -> Result<(), Ending>
+    requires world { IsWorld world.old }
+    requires values { AllByRecursion (MayUseIn world.old) values.now }
+    requires n { slice_get world.old.names n.0 ≡ Some (codes "n") }
+    ensures runs { Runs world.old world.new results.old.items results.new.items result (table.pack_row (map (meant world.old.names) values.now) (store_in world.old)) }
+    ensures keeps { Keeps world.old world.new }
+{
+    let count = match count_of(values) {
+        Some(count) => count,
+        None => return Err(Ending::OutOfMemory),
+    };
+    let t = match world.arena.new_table(world.owner) {
+        Ok(t) => t,
+        Err(OutOfMemory) => return Err(Ending::OutOfMemory),
+    };
+    match put_all_and(world.arena.table_mut(t), one(), values, Value::Str(n), Value::Num(count)) {
+        Ok(()) => give(results, Value::Table(t)),
+        Err(OutOfMemory) => Err(Ending::OutOfMemory),
+    }
+}
+
+// How many values there are, where that is a whole number.
+fn count_of(values: &[Value]) -> Option<Whole>
+    ensures count { IfSome result (λ n. n ≡ pos (length values.now)) }
+    ensures few { IsSome result → length values.now ≤ 2 ^ 53 }
+{
+    if values.len() > Whole::GREATEST as usize {
+        return None;
+    }
+    Whole::new(values.len() as i64)
 }

@@ -1,8 +1,9 @@
 //! Elements in a row.
 
-ghost use Rattle.std.specs.Prelude.{◌≡◌, ◌+◌, ◌^◌, ◌≤◌, pos, ◌+ℤ◌, ◌≤ℤ◌, length, replicate, OnOk, OnErr, IfOk};
+ghost use Rattle.std.specs.Prelude.{◌≡◌, false, ◌+◌, ◌^◌, ◌≤◌, pos, ◌+ℤ◌, ◌≤ℤ◌, length, replicate, OnOk, OnErr, IfOk};
 ghost use Rattle.luau_tables.specs.Rules as rule;
 ghost use Rattle.table_lists.specs.Lists.{items, put_all, Began};
+ghost use Rattle.value_arena.specs.Tables.{is_nil};
 ghost use Rattle.value_model.specs.declared.value.Value.TheVariants.{Num};
 ghost use Rattle.whole_num.specs.Whole.{IsWhole};
 
@@ -48,6 +49,23 @@ pub fn fill(table: &mut Table, count: usize, v: Value) -> Result<(), OutOfMemory
         put_number(table, 1 + step as i64, *filling)?;
     }
     Ok(())
+}
+
+/// Writes values under the numbers from 1 on, and then another one under a key that is not nil.
+pub fn put_all_and(
+    table: &mut Table,
+    first: Whole,
+    values: &[Value],
+    key: Value,
+    v: Value,
+) -> Result<(), OutOfMemory>
+    requires within { (first +ℤ pos (length values.now)) ≤ℤ pos (2 ^ 53 + 1) }
+    requires key { is_nil key ≡ false }
+    ensures ok { OnOk result (table.new ≡ rule.put (put_all table.old first values.now) key v) }
+    ensures err { OnErr result (Began table.old table.new first values.now) }
+{
+    put_all(table, first, values)?;
+    put(table, key, v)
 }
 
 // Writes the value under a number that is in range.
