@@ -1,6 +1,6 @@
 //! `table.create` and `table.pack`.
 
-ghost use Rattle.std.specs.Prelude.{◌≡◌, ◌^◌, ◌≤◌, pos, Some, IsSome, IfSome, length, map, slice_get, codes};
+ghost use Rattle.std.specs.Prelude.{◌≡◌, ◌^◌, ◌≤◌, pos, Some, IfSome, length, map, slice_get, codes};
 ghost use Rattle.std.specs.List.{AllByRecursion};
 ghost use Rattle.value_model.specs.Parts.{meant};
 ghost use Rattle.value_model.specs.StringRows as string;
@@ -120,7 +120,7 @@ fn packed(
 // How many values there are, where that is a whole number.
 fn count_of(values: &[Value]) -> Option<Whole>
     ensures count { IfSome result (λ n. n ≡ pos (length values.now)) }
-    ensures few { IsSome result → length values.now ≤ 2 ^ 53 }
+    ensures few { IfSome result (λ _. length values.now ≤ 2 ^ 53) }
 {
     if values.len() > Whole::GREATEST as usize {
         return None;
