@@ -9,7 +9,7 @@ use crate::element::{is_nil, put};
 use resource::OutOfMemory;
 use std::alloc::Global;
 use value_arena::Table;
-use value_model::Value;
+use value_model::{TableId, Value};
 
 /// Writes nil under each key.
 pub fn clear(table: &mut Table)
@@ -34,14 +34,19 @@ pub fn entries(alloc: Global, table: &Table) -> Result<Vec<(Value, Value)>, OutO
     Ok(kept)
 }
 
-/// Writes entries in order. No key is nil.
-pub fn put_entries(table: &mut Table, entries: &[(Value, Value)]) -> Result<(), OutOfMemory>
+/// Writes entries in order, and sets the metatable. No key is nil.
+pub fn put_entries(
+    table: &mut Table,
+    entries: &[(Value, Value)],
+    meta: Option<TableId>,
+) -> Result<(), OutOfMemory>
     requires { AllByRecursion (λ e. is_nil e.0 ≡ false) entries.now }
-    ensures ok { OnOk result (table.new ≡ put_pairs table.old entries.now) }
+    ensures ok { OnOk result (table.new ≡ record (put_pairs table.old entries.now) { meta = meta }) }
     ensures err { OnErr result (BeganPairs table.old table.new entries.now) }
 {
     for entry in entries {
         put(table, entry.0, entry.1)?;
     }
+    table.put_meta(meta);
     Ok(())
 }
