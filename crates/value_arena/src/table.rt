@@ -1,6 +1,8 @@
 //! Tables from values to values, in the order in which keys came.
 
 ghost use Rattle.std.specs.Prelude.{◌≡◌, ◌<◌, ◌≤◌, ◌++◌, ◌∷◌, [], true, false, length, slice_get, IfSome, Some, None, OnOk, OnErr};
+ghost use Rattle.std.specs.List.{IsDistinct};
+ghost use Rattle.std.specs.Map.{keys_of};
 ghost use Rattle.value_arena.specs.Tables as spec;
 ghost use Rattle.value_model.specs.declared.value.Value.TheVariants.{Nil, Num};
 
@@ -55,6 +57,7 @@ impl Table {
     pub fn len(&self) -> usize
         ensures len { result ≡ length self.now.entries }
         ensures few { result ≤ spec.most_entries }
+        ensures distinct { IsDistinct spec.same (keys_of self.now.entries) }
     {
         self.entries.len()
     }

@@ -1,0 +1,4 @@
+pub mod Best
+pub mod Builtins
+pub mod Joined
+pub mod Targets

@@ -1,0 +1,16 @@
+//! The functions of `math` and `table`.
+#![tactic(auto)]
+
+mod calls;
+mod cloning;
+mod edits;
+mod joining;
+mod making;
+mod math;
+mod moving;
+mod ordering;
+mod search;
+mod tables;
+mod unpacking;
+
+pub use calls::call;
