@@ -1,3 +1,7 @@
+pub mod MoreTexts
+pub mod NewTables
+pub mod OwnKept
+pub mod OwnTables
 pub mod PartKept
 pub mod Sameness
 pub mod TablesKept
