@@ -1,0 +1,4 @@
+pub mod AddedTexts
+pub mod GivenValues
+pub mod Spans
+pub mod WholeRows

@@ -1,10 +1,9 @@
 //! Arguments, read in a world: nothing but texts may come to it.
 
-ghost use Rattle.std.specs.Prelude.{◌≡◌, ◌<◌, length, map, IfOk, IfErr};
+ghost use Rattle.std.specs.Prelude.{◌≡◌, ◌<◌, length, map, IfOk};
 ghost use Rattle.lib_arguments.specs.Checks.{Checks, most_arguments};
-ghost use Rattle.lib_arguments.specs.Rows.{IsKnownEnding};
-ghost use Rattle.lib_string.specs.Reading.{AddsTexts, Reads, MayUseAll};
-ghost use Rattle.luau_tables.specs.Worlds.{IsWorld, MayUseIn};
+ghost use Rattle.lib_string.specs.Reading.{MayUseAll, Reads};
+ghost use Rattle.luau_tables.specs.Worlds.{IsWorld};
 ghost use Rattle.value_model.specs.Arguments as row;
 ghost use Rattle.value_model.specs.Parts.{bytes_at, meant};
 
@@ -27,7 +26,6 @@ pub(crate) fn text_at(
     requires world { IsWorld world.old }
     requires args { MayUseAll world.old args.now }
     ensures checks { Checks world.new.names (λ id. bytes_at world.new.names id.0) (row.text_at f i (map (meant world.old.names) args.now)) result }
-    ensures known { IfErr result (IsKnownEnding world.new.names) }
     ensures number { IfOk result (λ id. id.0 < length world.new.names) }
     ensures reads { Reads world.old world.new args.now }
 {
@@ -47,7 +45,6 @@ pub(crate) fn text_or(
     requires world { IsWorld world.old }
     requires args { MayUseAll world.old args.now }
     ensures checks { Checks world.new.names (λ id. bytes_at world.new.names id.0) (row.text_or f i (map (meant world.old.names) args.now) otherwise.now) result }
-    ensures known { IfErr result (IsKnownEnding world.new.names) }
     ensures number { IfOk result (λ id. id.0 < length world.new.names) }
     ensures reads { Reads world.old world.new args.now }
 {
@@ -63,8 +60,7 @@ pub(crate) fn number_at(
 ) -> Result<Whole, Ending>
     requires place { i < most_arguments }
     requires args { MayUseAll world.now args.now }
-    ensures checks { Checks world.now.names (λ z. z) (row.number_at f i (map (meant world.now.names) args.now)) result }
-    ensures known { IfErr result (IsKnownEnding world.now.names) }
+    ensures { Checks world.now.names (λ z. z) (row.number_at f i (map (meant world.now.names) args.now)) result }
 {
     lib_arguments::number_at(f, i, &world.names, args)
 }
@@ -79,8 +75,7 @@ pub(crate) fn number_or(
 ) -> Result<Whole, Ending>
     requires place { i < most_arguments }
     requires args { MayUseAll world.now args.now }
-    ensures checks { Checks world.now.names (λ z. z) (row.number_or f i (map (meant world.now.names) args.now) otherwise) result }
-    ensures known { IfErr result (IsKnownEnding world.now.names) }
+    ensures { Checks world.now.names (λ z. z) (row.number_or f i (map (meant world.now.names) args.now) otherwise) result }
 {
     lib_arguments::number_or(f, i, &world.names, args, otherwise)
 }

@@ -36,9 +36,18 @@ pub(crate) fn byte(
     ensures runs { Runs world.old world.new results.old.items results.new.items result (row.byte_row (map (meant world.old.names) args.now) (store_in world.old)) }
     ensures adds { AddsTexts world.old world.new }
 {
-    let text = text_at(alloc, Builtin::StringByte, 0, args, world)?;
-    let first = number_or(Builtin::StringByte, 1, args, whole(1), world)?;
-    let last = number_or(Builtin::StringByte, 2, args, first, world)?;
+    let text = match text_at(alloc, Builtin::StringByte, 0, args, world) {
+        Ok(text) => text,
+        Err(ending) => return Err(ending),
+    };
+    let first = match number_or(Builtin::StringByte, 1, args, whole(1), world) {
+        Ok(first) => first,
+        Err(ending) => return Err(ending),
+    };
+    let last = match number_or(Builtin::StringByte, 2, args, first, world) {
+        Ok(last) => last,
+        Err(ending) => return Err(ending),
+    };
     byte_values(text, first, last, world, results)
 }
 
@@ -58,27 +67,25 @@ fn byte_values(
     if bytes.len() > MOST_VALUES {
         return Err(Ending::RunError(RunErr::TooManyValues));
     }
-    append_all(bytes, results)?;
-    Ok(())
+    give_bytes(bytes, results)
 }
 
-// Appends each byte as a number.
-fn append_all(bytes: &[u8], results: &mut Vec<Value>) -> Result<(), OutOfMemory>
-    ensures ok { OnOk result (results.new.items ≡ results.old.items ++ map (λ b. Num (pos b)) bytes.now) }
-    ensures err { OnErr result (results.new.items ≡ results.old.items) }
+// Gives each byte as a number.
+fn give_bytes(bytes: &[u8], results: &mut Vec<Value>) -> Result<(), Ending>
+    ensures { Gives results.old.items results.new.items (map (λ b. Num (pos b)) bytes.now) result }
 {
     let len = results.len();
-    match append_some(bytes, results) {
+    match append_numbers(bytes, results) {
         Ok(()) => Ok(()),
         Err(OutOfMemory) => {
             results.truncate(len);
-            Err(OutOfMemory)
+            Err(Ending::OutOfMemory)
         }
     }
 }
 
-// The same, but some may have been appended where memory is wanted.
-fn append_some(bytes: &[u8], results: &mut Vec<Value>) -> Result<(), OutOfMemory>
+// Appends each byte as a number. Where memory is wanted some may have been appended.
+fn append_numbers(bytes: &[u8], results: &mut Vec<Value>) -> Result<(), OutOfMemory>
     ensures ok { OnOk result (results.new.items ≡ results.old.items ++ map (λ b. Num (pos b)) bytes.now) }
     ensures err { OnErr result (take (length results.old.items) results.new.items ≡ results.old.items) }
 {
@@ -100,37 +107,54 @@ pub(crate) fn char_of(
     ensures runs { Runs world.old world.new results.old.items results.new.items result (row.char_row (map (meant world.old.names) args.now) (store_in world.old)) }
     ensures adds { AddsTexts world.old world.new }
 {
-    let numbers = numbers(alloc, args, world)?;
-    let bytes = bytes_of(alloc, numbers.as_slice())?;
-    give_text(bytes.as_slice(), world, results)
+    let numbers = match numbers(alloc, args, world) {
+        Ok(numbers) => numbers,
+        Err(ending) => return Err(ending),
+    };
+    match bytes_of(alloc, numbers.as_slice()) {
+        Ok(bytes) => give_text(bytes.as_slice(), world, results),
+        Err(ending) => Err(ending),
+    }
 }
 
 // The numbers that the arguments of `char` are.
 fn numbers(alloc: Global, args: &[Value], world: &LibWorld) -> Result<Vec<Whole>, Ending>
     requires { MayUseAll world.now args.now }
-    ensures checks { Checks world.now.names (λ v. v.items) (char_numbers (map (meant world.now.names) args.now)) result }
-    ensures known { IfErr result (IsKnownEnding world.now.names) }
+    ensures { Checks world.now.names (λ v. v.items) (char_numbers (map (meant world.now.names) args.now)) result }
 {
     let mut numbers = Vec::new(alloc);
-    push(&mut numbers, number_at(Builtin::StringChar, 0, args, world)?)?;
-    for i in 1..args.len() {
-        let number = number_from(Builtin::StringChar, i, &world.names, &args[i])?;
-        push(&mut numbers, number)?;
+    match number_at(Builtin::StringChar, 0, args, world) {
+        Ok(number) => match numbers.push(number) {
+            Ok(()) => more_numbers(args, world, numbers),
+            Err(_) => Err(Ending::OutOfMemory),
+        },
+        Err(ending) => Err(ending),
     }
-    Ok(numbers)
 }
 
-fn push(numbers: &mut Vec<Whole>, number: Whole) -> Result<(), OutOfMemory>
-    ensures { OnOk result (numbers.new.items ≡ numbers.old.items ++ number ∷ []) }
+// The same, of the arguments behind the first.
+fn more_numbers(args: &[Value], world: &LibWorld, numbers: Vec<Whole>) -> Result<Vec<Whole>, Ending>
+    requires { MayUseAll world.now args.now }
+    ensures { Checks world.now.names (λ v. v.items) (numbers_then 1 numbers.items (drop 1 (map (meant world.now.names) args.now))) result }
 {
-    numbers.push(number)?;
-    Ok(())
+    let mut numbers = numbers;
+    for i in 1..args.len() {
+        match number_from(Builtin::StringChar, i, &world.names, &args[i]) {
+            Ok(number) => {
+                if numbers.push(number).is_err() {
+                    return Err(Ending::OutOfMemory);
+                }
+            }
+            Err(ending) => return Err(ending),
+        }
+    }
+    Ok(numbers)
 }
 
 // The bytes of numbers, each of which has to be one.
 fn bytes_of(alloc: Global, numbers: &[Whole]) -> Result<Vec<u8>, Ending>
     requires { length numbers.now < most_arguments }
-    ensures checks { (texts : List Bytes) → Checks texts (λ v. v.items) (byte_texts numbers.now) result }
+    ensures { (texts : List Bytes) → Checks texts (λ v. v.items) (bytes_then 0 [] numbers.now) result }
 {
     let mut bytes = Vec::new(alloc);
     for (i, number) in numbers.iter().enumerate() {
@@ -138,14 +162,9 @@ fn bytes_of(alloc: Global, numbers: &[Whole]) -> Result<Vec<u8>, Ending>
         if number < 0 || number > 255 {
             return Err(out_of_range(Builtin::StringChar, i));
         }
-        push_byte(&mut bytes, number as u8)?;
+        if bytes.push(number as u8).is_err() {
+            return Err(Ending::OutOfMemory);
+        }
     }
     Ok(bytes)
-}
-
-fn push_byte(bytes: &mut Vec<u8>, byte: u8) -> Result<(), OutOfMemory>
-    ensures { OnOk result (bytes.new.items ≡ bytes.old.items ++ byte ∷ []) }
-{
-    bytes.push(byte)?;
-    Ok(())
 }

@@ -130,11 +130,7 @@ fn fill_pieces(
 }
 
 // Gives the text, which may be too long.
-fn give_filled(
-    bytes: &[u8],
-    world: &mut LibWorld,
-    results: &mut Vec<Value>,
-) -> Result<(), Ending> {
+fn give_filled(bytes: &[u8], world: &mut LibWorld, results: &mut Vec<Value>) -> Result<(), Ending> {
     if bytes.len() > LONGEST_STRING {
         return Err(Ending::RunError(RunErr::StringTooLarge));
     }

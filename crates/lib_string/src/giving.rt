@@ -1,6 +1,6 @@
 //! What a function gives.
 
-ghost use Rattle.std.specs.Prelude.{◌≡◌, ◌++◌, ◌∷◌, [], OnOk, IfErr};
+ghost use Rattle.std.specs.Prelude.{◌≡◌, IfOk};
 ghost use Rattle.lib_arguments.specs.Rows.{Runs};
 ghost use Rattle.lib_string.specs.Reading.{AddsTexts};
 ghost use Rattle.luau_tables.specs.Worlds.{IsWorld, store_in};
@@ -8,7 +8,7 @@ ghost use Rattle.value_model.specs.CoreRows.{gives};
 ghost use Rattle.value_model.specs.Values as model;
 ghost use Rattle.whole_num.specs.Whole.{IsWhole};
 
-use lib_arguments::{Ending, text_value};
+use lib_arguments::{Ending, give, text_value};
 use luau_tables::LibWorld;
 use resource::OutOfMemory;
 use value_model::Value;
@@ -25,15 +25,6 @@ pub(crate) fn whole(n: i64) -> Whole
     }
 }
 
-/// Appends a value.
-pub(crate) fn give(value: Value, results: &mut Vec<Value>) -> Result<(), OutOfMemory>
-    ensures ok { OnOk result (results.new.items ≡ results.old.items ++ value ∷ []) }
-    ensures err { OnErr result (results.new.items ≡ results.old.items) }
-{
-    results.push(value)?;
-    Ok(())
-}
-
 /// Gives a text.
 pub(crate) fn give_text(
     bytes: &[u8],
@@ -44,9 +35,10 @@ pub(crate) fn give_text(
     ensures runs { Runs world.old world.new results.old.items results.new.items result (gives (store_in world.old) (model.Text bytes.now)) }
     ensures adds { AddsTexts world.old world.new }
 {
-    let id = text_value(&mut world.names, bytes)?;
-    give(Value::Str(id), results)?;
-    Ok(())
+    match text_value(&mut world.names, bytes) {
+        Ok(id) => give(results, Value::Str(id)),
+        Err(OutOfMemory) => Err(Ending::OutOfMemory),
+    }
 }
 
 /// Gives a number.
@@ -57,6 +49,21 @@ pub(crate) fn give_number(
 ) -> Result<(), Ending>
     ensures { Runs world.now world.now results.old.items results.new.items result (gives (store_in world.now) (model.Number number)) }
 {
-    give(Value::Num(number), results)?;
-    Ok(())
+    give(results, Value::Num(number))
+}
+
+/// Gives a text that was made, where there was memory for it.
+pub(crate) fn give_made(
+    made: Result<Vec<u8>, OutOfMemory>,
+    world: &mut LibWorld,
+    results: &mut Vec<Value>,
+) -> Result<(), Ending>
+    requires { IsWorld world.old }
+    ensures runs { (bytes : model.Bytes) → IfOk made (λ v. v.items ≡ bytes) → Runs world.old world.new results.old.items results.new.items result (gives (store_in world.old) (model.Text bytes)) }
+    ensures adds { AddsTexts world.old world.new }
+{
+    match made {
+        Ok(bytes) => give_text(bytes.as_slice(), world, results),
+        Err(OutOfMemory) => Err(Ending::OutOfMemory),
+    }
 }

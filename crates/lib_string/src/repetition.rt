@@ -9,7 +9,7 @@ ghost use Rattle.value_model.specs.Parts.{bytes_at, meant};
 ghost use Rattle.value_model.specs.StringRows as row;
 
 use crate::arguments::{number_at, text_at};
-use crate::giving::give_text;
+use crate::giving::{give_made, give_text};
 use byte_text::StrId;
 use lib_arguments::Ending;
 use luau_tables::LibWorld;
@@ -33,8 +33,14 @@ pub(crate) fn rep(
     ensures runs { Runs world.old world.new results.old.items results.new.items result (row.rep_row (map (meant world.old.names) args.now) (store_in world.old)) }
     ensures adds { AddsTexts world.old world.new }
 {
-    let text = text_at(alloc, Builtin::StringRep, 0, args, world)?;
-    let count = number_at(Builtin::StringRep, 1, args, world)?;
+    let text = match text_at(alloc, Builtin::StringRep, 0, args, world) {
+        Ok(text) => text,
+        Err(ending) => return Err(ending),
+    };
+    let count = match number_at(Builtin::StringRep, 1, args, world) {
+        Ok(count) => count,
+        Err(ending) => return Err(ending),
+    };
     rep_text(alloc, text, natural(count), world, results)
 }
 
@@ -65,8 +71,7 @@ fn rep_text(
     if count > LONGEST_STRING / bytes.len() {
         return Err(Ending::RunError(RunErr::StringTooLarge));
     }
-    let made = repeated(alloc, bytes, count)?;
-    give_text(made.as_slice(), world, results)
+    give_made(repeated(alloc, bytes, count), world, results)
 }
 
 // The bytes so many times over.

@@ -8,10 +8,10 @@ ghost use Rattle.value_model.specs.Parts.{bytes_at, meant};
 ghost use Rattle.value_model.specs.StringRows as row;
 
 use crate::arguments::{text_at, text_or};
-use crate::giving::{give, whole};
+use crate::giving::whole;
 use bstr::ByteSlice;
 use byte_text::{Interner, StrId};
-use lib_arguments::{Ending, text_value};
+use lib_arguments::{Ending, give, text_value};
 use luau_tables::LibWorld;
 use resource::OutOfMemory;
 use std::alloc::Global;
@@ -29,12 +29,29 @@ pub(crate) fn split(
     ensures runs { Runs world.old world.new results.old.items results.new.items result (row.split_row (map (meant world.old.names) args.now) (store_in world.old)) }
     ensures keeps { Keeps world.old world.new }
 {
-    let text = text_at(alloc, Builtin::StringSplit, 0, args, world)?;
-    let separator = text_or(alloc, Builtin::StringSplit, 1, args, b",", world)?;
+    let text = match text_at(alloc, Builtin::StringSplit, 0, args, world) {
+        Ok(text) => text,
+        Err(ending) => return Err(ending),
+    };
+    let separator = match text_or(alloc, Builtin::StringSplit, 1, args, b",", world) {
+        Ok(separator) => separator,
+        Err(ending) => return Err(ending),
+    };
+    match split_at(alloc, text, separator, world) {
+        Ok(table) => give(results, Value::Table(table)),
+        Err(OutOfMemory) => Err(Ending::OutOfMemory),
+    }
+}
+
+// A new table of the pieces of a text.
+fn split_at(
+    alloc: Global,
+    text: StrId,
+    separator: StrId,
+    world: &mut LibWorld,
+) -> Result<TableId, OutOfMemory> {
     let pieces = pieces_of(alloc, text, separator, world)?;
-    let table = table_of(pieces.as_slice(), world)?;
-    give(Value::Table(table), results)?;
-    Ok(())
+    table_of(pieces.as_slice(), world)
 }
 
 // The pieces of a text, as values.
@@ -49,7 +66,12 @@ fn pieces_of(
     if parting.is_empty() {
         single_bytes(alloc, bytes.as_slice(), &mut world.names)
     } else {
-        between(alloc, bytes.as_slice(), parting.as_slice(), &mut world.names)
+        between(
+            alloc,
+            bytes.as_slice(),
+            parting.as_slice(),
+            &mut world.names,
+        )
     }
 }
 

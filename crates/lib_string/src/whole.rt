@@ -10,7 +10,7 @@ ghost use Rattle.value_model.specs.Parts.{bytes_at, meant};
 ghost use Rattle.value_model.specs.StringRows as row;
 
 use crate::arguments::{number_at, number_or, text_at};
-use crate::giving::{give_number, give_text, whole};
+use crate::giving::{give_made, give_number, whole};
 use crate::positions::bytes_between;
 use byte_text::StrId;
 use lib_arguments::Ending;
@@ -32,7 +32,10 @@ pub(crate) fn len(
     ensures runs { Runs world.old world.new results.old.items results.new.items result (row.len_row (map (meant world.old.names) args.now) (store_in world.old)) }
     ensures adds { AddsTexts world.old world.new }
 {
-    let text = text_at(alloc, Builtin::StringLen, 0, args, world)?;
+    let text = match text_at(alloc, Builtin::StringLen, 0, args, world) {
+        Ok(text) => text,
+        Err(ending) => return Err(ending),
+    };
     give_number(length_of(text, world), world, results)
 }
 
@@ -57,11 +60,19 @@ pub(crate) fn sub(
     ensures runs { Runs world.old world.new results.old.items results.new.items result (row.sub_row (map (meant world.old.names) args.now) (store_in world.old)) }
     ensures adds { AddsTexts world.old world.new }
 {
-    let text = text_at(alloc, Builtin::StringSub, 0, args, world)?;
-    let first = number_at(Builtin::StringSub, 1, args, world)?;
-    let last = number_or(Builtin::StringSub, 2, args, whole(-1), world)?;
-    let part = part_of(alloc, text, first, last, world)?;
-    give_text(part.as_slice(), world, results)
+    let text = match text_at(alloc, Builtin::StringSub, 0, args, world) {
+        Ok(text) => text,
+        Err(ending) => return Err(ending),
+    };
+    let first = match number_at(Builtin::StringSub, 1, args, world) {
+        Ok(first) => first,
+        Err(ending) => return Err(ending),
+    };
+    let last = match number_or(Builtin::StringSub, 2, args, whole(-1), world) {
+        Ok(last) => last,
+        Err(ending) => return Err(ending),
+    };
+    give_made(part_of(alloc, text, first, last, world), world, results)
 }
 
 // A copy of the bytes of a text between two positions.
@@ -93,9 +104,11 @@ pub(crate) fn change(
     ensures runs { Runs world.old world.new results.old.items results.new.items result (row.of_text f (changed f) (map (meant world.old.names) args.now) (store_in world.old)) }
     ensures adds { AddsTexts world.old world.new }
 {
-    let text = text_at(alloc, f, 0, args, world)?;
-    let made = changed(alloc, f, world.names.bytes(text))?;
-    give_text(made.as_slice(), world, results)
+    let text = match text_at(alloc, f, 0, args, world) {
+        Ok(text) => text,
+        Err(ending) => return Err(ending),
+    };
+    give_made(changed(alloc, f, world.names.bytes(text)), world, results)
 }
 
 // The text that a function makes of another one.
