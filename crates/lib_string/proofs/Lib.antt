@@ -1,4 +1,6 @@
 pub mod AddedTexts
+pub mod CodeRows
 pub mod GivenValues
+pub mod RepeatedRows
 pub mod Spans
 pub mod WholeRows

@@ -1,20 +1,22 @@
 -- The rows of functions that look at a text and at numbers.
-use Rattle.std.proofs.Common.{◌≡◌, List, map, Result, Ok, Err, subst, ℤ, negsuc}
+use Rattle.std.proofs.Common.{◌≡◌, List, map, Result, Ok, Err, refl, subst, ℤ}
 use Rattle.byte_text.specs.declared.fixed.StrId.{StrId}
 use Rattle.value_model.specs.Answers as model
 use Rattle.value_model.specs.Arguments as arg
-use Rattle.value_model.specs.Parts.{meant, bytes_at}
+use Rattle.value_model.specs.Parts.{meant, meant_error, bytes_at, IsKnown}
 use Rattle.value_model.specs.Store.{Store}
 use Rattle.value_model.specs.Values as m
 use Rattle.value_model.specs.Values.{Bytes}
 use Rattle.value_model.specs.declared.builtin.Builtin.{Builtin}
+use Rattle.value_model.specs.declared.error.RunErr.{RunErr}
 use Rattle.value_model.specs.declared.value.Value.{Value}
 use Rattle.luau_tables.specs.Worlds.{IsWorld, store_in}
 use Rattle.luau_tables.specs.declared.globals.LibWorld.{LibWorld}
 use Rattle.lib_arguments.specs.Checks.{Checks}
 use Rattle.lib_arguments.specs.Rows.{Runs}
 use Rattle.lib_arguments.specs.declared.ending.Ending.{Ending}
-use Rattle.lib_arguments.proofs.RowsRun.{found_runs, look_ends_row}
+use Rattle.lib_arguments.specs.declared.ending.Ending.TheVariants.{RunError}
+use Rattle.lib_arguments.proofs.RowsRun.{ends_runs, found_runs, look_ends_row}
 use Rattle.lib_string.specs.Reading.{Reads}
 use Rattle.lib_string.proofs.AddedTexts.{look_runs, look_stops}
 
@@ -43,3 +45,7 @@ number_then look go b c rs rs' result z h k = found_runs (λ z. z) look go b.nam
 
 pub number_ends : (look : (ℤ → model.LibAnswer) → model.LibAnswer) (go : ℤ → model.LibAnswer) (b : LibWorld) (rs : List Value) (e : Ending) → Checks {A = ℤ} b.names (λ z. z) look (Err e) → Runs b b rs rs (Err e) (look go)
 number_ends look go b rs e h = look_ends_row (λ z. z) look go b rs e h
+
+-- a row ends with an error that shows no text
+pub error_ends : (w : LibWorld) (rs : List Value) (e : RunErr) (row : model.LibAnswer) → IsKnown w.names e → row ≡ model.ErrsWith (meant_error w.names e) → Runs w w rs rs (Err (RunError e)) row
+error_ends w rs e row known h = ends_runs w w rs (RunError e) row refl (h, known)

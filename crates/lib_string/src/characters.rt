@@ -1,13 +1,14 @@
 //! Single bytes: `byte` and `char`.
 
-ghost use Rattle.std.specs.Prelude.{◌≡◌, ◌<◌, ◌++◌, drop, length, map, pos, [], IfErr, IfOk, OnOk};
-ghost use Rattle.lib_arguments.specs.Checks.{Checks, Fails, most_arguments};
-ghost use Rattle.lib_arguments.specs.Rows.{IsKnownEnding, Runs};
+ghost use Rattle.std.specs.Prelude.{◌≡◌, ◌<◌, ◌++◌, List, drop, length, map, pos, take, [], OnErr, OnOk};
+ghost use Rattle.lib_arguments.specs.Checks.{Checks};
+ghost use Rattle.lib_arguments.specs.Rows.{Gives, Runs};
+ghost use Rattle.lib_string.specs.Codes.{bytes_then, char_numbers, numbers_then};
 ghost use Rattle.lib_string.specs.Reading.{AddsTexts, MayUseAll};
 ghost use Rattle.luau_tables.specs.Worlds.{IsWorld, store_in};
 ghost use Rattle.value_model.specs.Parts.{bytes_at, meant};
 ghost use Rattle.value_model.specs.StringRows as row;
-ghost use Rattle.value_model.specs.declared.builtin.Builtin.TheVariants.{StringChar};
+ghost use Rattle.value_model.specs.Values.{Bytes};
 ghost use Rattle.value_model.specs.declared.value.Value.TheVariants.{Num};
 
 use crate::arguments::{number_at, number_or, text_at};
@@ -153,7 +154,6 @@ fn more_numbers(args: &[Value], world: &LibWorld, numbers: Vec<Whole>) -> Result
 
 // The bytes of numbers, each of which has to be one.
 fn bytes_of(alloc: Global, numbers: &[Whole]) -> Result<Vec<u8>, Ending>
-    requires { length numbers.now < most_arguments }
     ensures { (texts : List Bytes) → Checks texts (λ v. v.items) (bytes_then 0 [] numbers.now) result }
 {
     let mut bytes = Vec::new(alloc);
