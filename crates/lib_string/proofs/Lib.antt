@@ -1,5 +1,6 @@
 pub mod AddedTexts
 pub mod CodeRows
+pub mod CodeValues
 pub mod GivenValues
 pub mod RepeatedRows
 pub mod Spans

@@ -1,6 +1,6 @@
 //! Single bytes: `byte` and `char`.
 
-ghost use Rattle.std.specs.Prelude.{◌≡◌, ◌<◌, ◌++◌, List, drop, length, map, pos, take, [], OnErr, OnOk};
+ghost use Rattle.std.specs.Prelude.{◌≡◌, ◌<◌, ◌++◌, List, drop, length, map, pos, take, true, false, [], MatchOption, OnErr, OnOk};
 ghost use Rattle.lib_arguments.specs.Checks.{Checks};
 ghost use Rattle.lib_arguments.specs.Rows.{Gives, Runs};
 ghost use Rattle.lib_string.specs.Codes.{bytes_then, char_numbers, numbers_then};
@@ -158,13 +158,26 @@ fn bytes_of(alloc: Global, numbers: &[Whole]) -> Result<Vec<u8>, Ending>
 {
     let mut bytes = Vec::new(alloc);
     for (i, number) in numbers.iter().enumerate() {
-        let number = number.get();
-        if number < 0 || number > 255 {
-            return Err(out_of_range(Builtin::StringChar, i));
-        }
-        if bytes.push(number as u8).is_err() {
-            return Err(Ending::OutOfMemory);
+        match byte_of(*number) {
+            Some(byte) => {
+                if bytes.push(byte).is_err() {
+                    return Err(Ending::OutOfMemory);
+                }
+            }
+            None => return Err(out_of_range(Builtin::StringChar, i)),
         }
     }
     Ok(bytes)
+}
+
+/// The byte that a number is, where it is one.
+pub(crate) fn byte_of(number: Whole) -> Option<u8>
+    ensures { MatchOption result (row.is_byte number ≡ false) (λ b. (row.is_byte number ≡ true) × (row.natural number ≡ b)) }
+{
+    let number = number.get();
+    if 0 <= number && number <= 255 {
+        Some(number as u8)
+    } else {
+        None
+    }
 }
