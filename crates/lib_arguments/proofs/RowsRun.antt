@@ -79,14 +79,16 @@ memory_ends before after rs row = record { results = refl; store = tt; fails = t
 
 -- ---- looks at arguments
 
-module _ {A B : Type 0} (mean : A → B) (look : (B → model.LibAnswer) → model.LibAnswer) (go : B → model.LibAnswer) where
-  -- the look found what the row goes on with
-  pub found_runs : (texts : List Bytes) (before after : LibWorld) (rs rs' : List Value) (result : Result (Unit {0}) Ending) (a : A) → Checks texts mean look (Ok a) → Runs before after rs rs' result (go (mean a)) → Runs before after rs rs' result (look go)
-  found_runs texts before after rs rs' result a h k = subst (λ row. Runs before after rs rs' result row) (sym (h go)) k
+-- a look found what the row goes on with
+pub found : {B : Type 0} {look : (B → model.LibAnswer) → model.LibAnswer} {b : B} (go : B → model.LibAnswer) (before after : LibWorld) (rs rs' : List Value) (result : Result (Unit {0}) Ending) → ((go : B → model.LibAnswer) → look go ≡ go b) → Runs before after rs rs' result (go b) → Runs before after rs rs' result (look go)
+found go before after rs rs' result h k = subst (λ row. Runs before after rs rs' result row) (sym (h go)) k
 
-  -- the look ends the row
-  pub look_ends_row : (w : LibWorld) (rs : List Value) (e : Ending) → Checks {A = A} w.names mean look (Err e) → Runs w w rs rs (Err e) (look go)
-  look_ends_row w rs e h = ends_runs w w rs e (look go) refl (h go)
+pub found_fails : {B : Type 0} {look : (B → model.LibAnswer) → model.LibAnswer} {b : B} (go : B → model.LibAnswer) (texts : List Bytes) (e : Ending) → ((go : B → model.LibAnswer) → look go ≡ go b) → Fails texts (go b) e → Fails texts (look go) e
+found_fails go texts e h k = subst (λ row. Fails texts row e) (sym (h go)) k
+
+-- a look ends the row, in a world that stays
+pub ends : (w : LibWorld) (rs : List Value) (e : Ending) (row : model.LibAnswer) → Fails w.names row e → Ends w w rs rs e row
+ends w rs e row fails = record { results = refl; store = leaves_store e w w refl; fails = fails }
 
 -- ---- the answer of a call
 

@@ -19,8 +19,8 @@ pub fn any_at(f: Builtin, i: usize, args: &[Value]) -> Result<Value, Ending>
     wanted(f, i, Wanted::AnyValue, args)
 }
 
-// The same, where a value of some sort is wanted.
-pub(crate) fn wanted(f: Builtin, i: usize, w: Wanted, args: &[Value]) -> Result<Value, Ending>
+/// The same, where a value of some sort is wanted.
+pub fn wanted(f: Builtin, i: usize, w: Wanted, args: &[Value]) -> Result<Value, Ending>
     requires { i < most_arguments }
     ensures checks { (texts : List Bytes) → Checks texts (meant texts) (row.wanted_argument f i w (slice_get (map (meant texts) args.now) i)) result }
     ensures there { IfOk result (λ v. slice_get args.now i ≡ Some v) }
@@ -70,8 +70,8 @@ pub fn table_from(f: Builtin, i: usize, v: Value) -> Result<TableId, Ending>
     }
 }
 
-// An argument of another kind than the one that is wanted.
-pub(crate) fn invalid(f: Builtin, i: usize, w: Wanted, v: &Value) -> Ending
+/// An argument of another kind than the one that is wanted.
+pub fn invalid(f: Builtin, i: usize, w: Wanted, v: &Value) -> Ending
     requires { i < most_arguments }
     ensures { (texts : List Bytes) → Fails texts (row.invalid f i w (meant texts v.now)) result }
 {

@@ -13,4 +13,4 @@ pub use globals::{Globals, LibWorld, MetaNames};
 pub use plain::plain_into;
 pub use reading::{border, frozen, get, next};
 pub use refusal::{MetaErr, NextErr, SetErr};
-pub use writing::{set, set_meta};
+pub use writing::{set, set_meta, write};

@@ -1,14 +1,14 @@
 -- The function that reads texts as numbers meets their grammar.
 use Rattle.std.proofs.Common.{◌≡◌, ℕ, zero, suc, take, drop, get_or, append-nil, ◌*◌, ◌/◌, ◌%◌, ◌^◌, ◌<◌, ◌≤◌, ◌≢◌, Bool, true, false, not, nat_eq, ◌&&◌, List, [], ◌∷◌, ◌++◌, length, option_map, true≢false, Some, None, Result, Ok, Err, ℤ, pos, neg_ℤ, refl, sym, ap, subst, ◌∙◌, arith, if◌then◌else◌}
 use Rattle.std.specs.List.{list_all, starts_with}
-use Rattle.std.proofs.lemmas.Bool.{and_parts, eqb-true, eqb-false, eq-eqb, ne_eqb}
+use Rattle.std.proofs.lemmas.Bool.{and_parts, ltb-true, eqb-true, eqb-false, eq-eqb, ne_eqb}
 use Rattle.std.proofs.lemmas.List.{take-append-drop, take_all}
 use Rattle.std.specs.Char.{digit_value}
 use Rattle.std.specs.Str.Parse.{AllDigits, IsNumeral, digits_value}
 use Rattle.whole_num.specs.Whole.{within}
 use Rattle.whole_num.specs.Literals.{Scaled, Answers, without_marks, IsFraction, no_fraction, fraction, IsDecimal, IsLiteral, decimal as decimal_literal, hexadecimal as hexadecimal_literal}
 use Rattle.whole_num.proofs.Spelling.{names_no_decimal}
-use Rattle.whole_num.specs.NumberTexts.{ReadNumber, number_of, without_blanks_before, is_blank, is_visible, front, behind, is_numeral, exact, numeral_number, decimal_number, unsigned_number, negated, signed_number, read_number}
+use Rattle.whole_num.specs.NumberTexts.{ReadNumber, number_of, without_blanks_before, is_blank, is_visible, front, behind, is_numeral, is_digit_in, exact, numeral_number, decimal_number, unsigned_number, negated, signed_number, read_number}
 use Rattle.whole_num.specs.NumberGrammar.{IsSign, no_sign, plus, minus, IsUnsigned, decimal, hexadecimal, IsNumberText, SignedAnswers, ReadsText}
 use Rattle.whole_num.specs.declared.arithmetic.Stop.{Stop}
 use Rattle.whole_num.specs.declared.arithmetic.Stop.TheVariants.{NotWhole, OutOfRange}
@@ -399,19 +399,39 @@ begins_decimal (a ∷ b ∷ t) e = by_two a b t ∙ by (nat_eq 48 a) (nat_eq 120
     by true false e = refl
     by false y e = refl
 
-pub numeral_answer : (ds : List ℕ) (r : Read) → IsNumeral 16 ds → Answers (record { mantissa = digits_value 16 ds; up = 0; down = 0 }) r → number_of r ≡ numeral_number 16 ds
-numeral_answer ds r n a = by (is_numeral 16 ds) refl
+pub numeral_answer : (radix : ℕ) (ds : List ℕ) (r : Read) → IsNumeral radix ds → Answers (record { mantissa = digits_value radix ds; up = 0; down = 0 }) r → number_of r ≡ numeral_number radix ds
+numeral_answer radix ds r n a = by (is_numeral radix ds) refl
   where
-    by : (t : Bool) → is_numeral 16 ds ≡ t → number_of r ≡ (if t then Some (within (pos (digits_value 16 ds))) else None)
-    by true e = answers_are (record { mantissa = digits_value 16 ds; up = 0; down = 0 }) r a ∙ ap Some (sym (exact_whole (digits_value 16 ds)))
-    by false e = absurd (no_numeral_in 16 ds e n)
+    by : (t : Bool) → is_numeral radix ds ≡ t → number_of r ≡ (if t then Some (within (pos (digits_value radix ds))) else None)
+    by true e = answers_are (record { mantissa = digits_value radix ds; up = 0; down = 0 }) r a ∙ ap Some (sym (exact_whole (digits_value radix ds)))
+    by false e = absurd (no_numeral_in radix ds e n)
 
-pub no_numeral : (ds : List ℕ) → (IsNumeral 16 ds → ⊥) → None ≡ numeral_number 16 ds
-no_numeral ds n = by (is_numeral 16 ds) refl
+pub no_numeral : (radix : ℕ) (ds : List ℕ) → (IsNumeral radix ds → ⊥) → None ≡ numeral_number radix ds
+no_numeral radix ds n = by (is_numeral radix ds) refl
   where
-    by : (t : Bool) → is_numeral 16 ds ≡ t → None ≡ (if t then Some (within (pos (digits_value 16 ds))) else None)
-    by true e = absurd (n (is_numeral_in 16 ds e))
+    by : (t : Bool) → is_numeral radix ds ≡ t → None ≡ (if t then Some (within (pos (digits_value radix ds))) else None)
+    by true e = absurd (n (is_numeral_in radix ds e))
     by false e = refl
+
+-- a `_` is no digit of a base
+mark_no_digit : (radix b : ℕ) → radix ≤ 36 → nat_eq b 95 ≡ true → is_digit_in radix b ≡ true → ⊥
+mark_no_digit radix b small e d =
+    let here : is_digit_in radix 95 ≡ true = subst (λ b. is_digit_in radix b ≡ true) (eqb-true b 95 e) d in
+    omega (arith, ltb-true (digit_value 95) radix here)
+
+mark_no_numeral : (radix : ℕ) (t : List ℕ) (i : ℕ) → radix ≤ 36 → i < length t → nat_eq (get_or t i 0) 95 ≡ true → list_all (is_digit_in radix) t ≡ true → ⊥
+mark_no_numeral radix [] i small l e h = omega (arith, l)
+mark_no_numeral radix (b ∷ t) zero small l e h = mark_no_digit radix b small e (and_parts (is_digit_in radix b) (list_all (is_digit_in radix) t) h).0
+mark_no_numeral radix (b ∷ t) (suc i) small l e h =
+    mark_no_numeral radix t i small (omega (arith, l)) e (and_parts (is_digit_in radix b) (list_all (is_digit_in radix) t) h).1
+
+pub marked_numeral : (radix : ℕ) (t : List ℕ) (i : ℕ) → radix ≤ 36 → i < length t → nat_eq (get_or t i 0) 95 ≡ true → None ≡ numeral_number radix t
+marked_numeral radix [] i small l e = refl
+marked_numeral radix (b ∷ t) i small l e = by (list_all (is_digit_in radix) (b ∷ t)) refl
+  where
+    by : (x : Bool) → list_all (is_digit_in radix) (b ∷ t) ≡ x → None ≡ (if x then Some (within (pos (digits_value radix (b ∷ t)))) else None)
+    by true n = absurd (mark_no_numeral radix (b ∷ t) i small l e n)
+    by false n = refl
 
 -- ---- words
 

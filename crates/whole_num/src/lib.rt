@@ -13,6 +13,6 @@ mod whole;
 
 pub use arithmetic::Stop;
 pub use literal::{Read, read_literal};
-pub use reading::read;
+pub use reading::{read, read_with_base};
 pub use text::print_into;
 pub use whole::Whole;

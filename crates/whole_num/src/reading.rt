@@ -1,8 +1,8 @@
 //! Texts that are read as numbers at run time.
 
-ghost use Rattle.std.specs.Prelude.{◌≡◌, option_map};
+ghost use Rattle.std.specs.Prelude.{◌≡◌, ◌≤◌, option_map};
 ghost use Rattle.whole_num.specs.NumberGrammar.{ReadsText};
-ghost use Rattle.whole_num.specs.NumberTexts.{number_of, is_blank, is_visible, front, behind, without_blanks_before, unsigned_number, signed_number, negated, read_number};
+ghost use Rattle.whole_num.specs.NumberTexts.{number_of, is_blank, is_visible, front, behind, without_blanks_before, unsigned_number, signed_number, numeral_number, negated, read_number, read_with_base};
 
 use crate::literal::{Read, decimal, in_range, numeral};
 
@@ -23,6 +23,36 @@ pub fn read(bytes: &[u8]) -> Read
         signed(word)
     } else {
         Read::NotNumber
+    }
+}
+
+/// Reads a text as a number in a base: it may begin with blanks, and with a `-` then; digits of the base follow, with letters of
+/// either case, and nothing else.
+#[tactic(auto, unfolding(crate::specs::NumberTexts::read_with_base))]
+pub fn read_with_base(bytes: &[u8], radix: u32) -> Read
+    requires low { 2 ≤ radix }
+    requires high { radix ≤ 36 }
+    ensures { number_of result ≡ read_with_base radix bytes.now }
+{
+    let text = behind_blanks(bytes);
+    match text.split_first() {
+        Some((b'-', digits)) => negated(digits_in(digits, radix)),
+        _ => digits_in(text, radix),
+    }
+}
+
+// Reads digits of a base. The readers of literals pass over each `_`, which no number has here.
+fn digits_in(text: &[u8], radix: u32) -> Read
+    requires low { 2 ≤ radix }
+    requires high { radix ≤ 36 }
+    ensures { number_of result ≡ numeral_number radix text.now }
+{
+    if text.contains(&b'_') {
+        return Read::NotNumber;
+    }
+    match numeral(text, radix) {
+        Some(n) => in_range(n),
+        None => Read::NotNumber,
     }
 }
 

@@ -17,14 +17,14 @@ returns-in-Some c =
     let same : without_marks (take (length t - 2) (drop 2 t)) ≡ drop 2 t = ap without_marks (take_rest t 2) ∙ without_behind t c.if-contains.ensures.cases in
     let n = c.in-Some.ensures in
     let value : Scaled = record { mantissa = digits_value 16 (drop 2 t); up = 0; down = 0 } in
-    numeral_answer (drop 2 t) c.in_range.result (subst (IsNumeral 16) same n.0) (c.in_range.ensures value (digits_value 16 (drop 2 t)) refl (n.1 ∙ ap (λ l. cut (digits_value 16 l)) same))
+    numeral_answer 16 (drop 2 t) c.in_range.result (subst (IsNumeral 16) same n.0) (c.in_range.ensures value (digits_value 16 (drop 2 t)) refl (n.1 ∙ ap (λ l. cut (digits_value 16 l)) same))
     ∙ sym (begins_hex t c.if-starts_with.ensures.value)
 
 pub returns-in-None : goal.returns-in-None
 returns-in-None c =
     let t = c.args.text.now in
     let same : without_marks (take (length t - 2) (drop 2 t)) ≡ drop 2 t = ap without_marks (take_rest t 2) ∙ without_behind t c.if-contains.ensures.cases in
-    no_numeral (drop 2 t) (λ n. c.in-None.ensures (subst (IsNumeral 16) (sym same) n)) ∙ sym (begins_hex t c.if-starts_with.ensures.value)
+    no_numeral 16 (drop 2 t) (λ n. c.in-None.ensures (subst (IsNumeral 16) (sym same) n)) ∙ sym (begins_hex t c.if-starts_with.ensures.value)
 
 pub returns-else-starts_with : goal.returns-else-starts_with
 returns-else-starts_with c =

@@ -1,0 +1,5 @@
+//! The functions of the global table.
+#![tactic(auto)]
+
+mod kinds;
+mod raw;
