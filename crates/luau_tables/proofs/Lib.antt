@@ -3,6 +3,9 @@ pub mod NewTables
 pub mod OwnKept
 pub mod OwnTables
 pub mod PartKept
+pub mod PartLaws
 pub mod Sameness
+pub mod StoreTables
 pub mod TablesKept
 pub mod Texts
+pub mod WorldsKept

@@ -106,10 +106,10 @@ module _ (texts after : List Bytes) (extends : Extends texts after) where
   pub use_more : (a : ArenaView) (w : Owner) (v : Value) → MayUse texts a w v → MayUse after a w v
   use_more a w v h = (h.0, text_more v h.1)
 
-  pub knmore_texts : (e : RunErr) → IsKnown texts e → IsKnown after e
-  knmore_texts (err.IndexWithName base key) h = number_on key.0 h
-  knmore_texts (err.HostArgument n path t) h = number_on path.0 h
-  knmore_texts _ h = tt
+  pub known_more : (e : RunErr) → IsKnown texts e → IsKnown after e
+  known_more (err.IndexWithName base key) h = number_on key.0 h
+  known_more (err.HostArgument n path t) h = number_on path.0 h
+  known_more _ h = tt
 
   pub error_more : (e : RunErr) → IsKnown texts e → meant_error after e ≡ meant_error texts e
   unfolding meant_error

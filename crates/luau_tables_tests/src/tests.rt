@@ -3,8 +3,8 @@ ghost use Rattle.value_arena.specs.Arenas.{HasTable};
 
 use byte_text::{Interner, StrId};
 use luau_tables::{
-    Globals, LibWorld, MetaErr, MetaNames, NextErr, SetErr, border, frozen, get, next, plain_into,
-    set, set_meta,
+    Globals, LibWorld, MetaErr, MetaNames, NextErr, SetErr, border, frozen, get, next,
+    part_is_changed, part_is_kept, part_is_read, plain_into, set, set_meta,
 };
 use resource::Steps;
 use std::marker::Brand;
@@ -138,10 +138,45 @@ fn list<L: Ledger>(rt: &(impl Abort + AllocGlobal), blank: Blank) -> Result<(), 
     Ok(())
 }
 
+// Stores an item in one table, beside which another one stays empty.
+fn store_one<L: Ledger>(
+    rt: &impl Abort,
+    arena: &mut Arena,
+    t: TableId,
+    other: TableId,
+    steps: &mut Steps<L>,
+)
+    requires there { HasTable arena.old t }
+    requires other { HasTable arena.old other }
+{
+    let done = set(arena, t, number(1), number(7), steps);
+    assert_eq!(rt; done, Ok(()));
+    assert_eq!(rt; border(arena, t), 1);
+    assert_eq!(rt; border(arena, other), 0);
+}
+
+// Two scripts have tables in one arena.
+fn parts<L: Ledger>(rt: &(impl Abort + AllocGlobal), blank: Blank) -> Result<(), Fail>
+    requires name { blank.name ≡ L.name }
+    requires parts { blank.parts ≡ L.parts }
+    requires some { 0 < L.parts }
+{
+    part_is_read();
+    part_is_changed();
+    part_is_kept();
+    let mut steps = Steps::<L>::new(blank);
+    let mut arena = Arena::new(rt.alloc());
+    let other = arena.new_table(Owner::Script(1))?;
+    let t = arena.new_table(Owner::Script(0))?;
+    store_one(rt, &mut arena, t, other, &mut steps);
+    Ok(())
+}
+
 #[test]
 fn walks(rt: HostRuntime) -> Result<(), Fail> {
     stores::<Brand>(&rt, Blank::new(1))?;
-    list::<Brand>(&rt, Blank::new(1))
+    list::<Brand>(&rt, Blank::new(1))?;
+    parts::<Brand>(&rt, Blank::new(1))
 }
 
 // A world of two frozen tables more than the global table and the metatable of strings, and of one host function.

@@ -5,3 +5,6 @@ ghosts-stores g a = record { name = a.blank.name; parts = a.blank.parts }
 
 abbrev pub ghosts-list : goal.ghosts-list
 ghosts-list g a = record { name = a.blank.name; parts = a.blank.parts }
+
+abbrev pub ghosts-parts : goal.ghosts-parts
+ghosts-parts g a = record { name = a.blank.name; parts = a.blank.parts }
