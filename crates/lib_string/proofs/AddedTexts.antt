@@ -15,7 +15,7 @@ use Rattle.luau_tables.proofs.OwnKept.{changes_nothing}
 use Rattle.lib_arguments.specs.Checks.{Checks, Fails}
 use Rattle.lib_arguments.specs.Rows.{Runs, Ends, LeavesStore}
 use Rattle.lib_arguments.specs.declared.ending.Ending.{Ending}
-use Rattle.lib_arguments.proofs.RowsRun.{each_map, ends_runs, found_runs, have_texts}
+use Rattle.lib_arguments.proofs.RowsRun.{each_map, ends_runs, found, have_texts}
 use Rattle.lib_string.specs.Reading.{AddsTexts, MayUseAll, Reads}
 
 pub adds_self : (a : LibWorld) → IsWorld a → AddsTexts a a
@@ -75,7 +75,7 @@ module _ {A B : Type 0} (mean : A → B) (look : (B → model.LibAnswer) → mod
   pub look_runs : (c : LibWorld) (rs rs' : List Value) (result : Result (Unit {0}) Ending) (x : A) → Checks b.names mean look (Ok x) → Runs b c rs rs' result (go (store_in b) (mean x)) → Runs a c rs rs' result (look (go (store_in a)))
   look_runs c rs rs' result x h k =
       let same = adds_store a b adds world in
-      found_runs mean look (go (store_in a)) b.names a c rs rs' result x h
+      found (go (store_in a)) a c rs rs' result h
       (runs_after a b c rs rs' result (go (store_in a) (mean x)) same (subst (λ s. Runs b c rs rs' result (go s (mean x))) same k))
 
   -- or ends it

@@ -2,6 +2,8 @@ pub mod AddedTexts
 pub mod CodeRows
 pub mod CodeValues
 pub mod GivenValues
+pub mod PieceTexts
 pub mod RepeatedRows
 pub mod Spans
+pub mod SplitPieces
 pub mod WholeRows

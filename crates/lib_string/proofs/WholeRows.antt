@@ -16,7 +16,7 @@ use Rattle.lib_arguments.specs.Checks.{Checks}
 use Rattle.lib_arguments.specs.Rows.{Runs}
 use Rattle.lib_arguments.specs.declared.ending.Ending.{Ending}
 use Rattle.lib_arguments.specs.declared.ending.Ending.TheVariants.{RunError}
-use Rattle.lib_arguments.proofs.RowsRun.{ends_runs, found_runs, look_ends_row}
+use Rattle.lib_arguments.proofs.RowsRun.{ends_runs, found}
 use Rattle.lib_string.specs.Reading.{Reads}
 use Rattle.lib_string.proofs.AddedTexts.{look_runs, look_stops}
 
@@ -41,10 +41,10 @@ module _ (f : Builtin) (rest : Rest) (a b : LibWorld) (args : List Value) (world
 
 -- a number is found, and the row goes on with it
 pub number_then : (look : (ℤ → model.LibAnswer) → model.LibAnswer) (go : ℤ → model.LibAnswer) (b c : LibWorld) (rs rs' : List Value) (result : Result (Unit {0}) Ending) (z : ℤ) → Checks b.names (λ z. z) look (Ok z) → Runs b c rs rs' result (go z) → Runs b c rs rs' result (look go)
-number_then look go b c rs rs' result z h k = found_runs (λ z. z) look go b.names b c rs rs' result z h k
+number_then look go b c rs rs' result z h k = found go b c rs rs' result h k
 
 pub number_ends : (look : (ℤ → model.LibAnswer) → model.LibAnswer) (go : ℤ → model.LibAnswer) (b : LibWorld) (rs : List Value) (e : Ending) → Checks {A = ℤ} b.names (λ z. z) look (Err e) → Runs b b rs rs (Err e) (look go)
-number_ends look go b rs e h = look_ends_row (λ z. z) look go b rs e h
+number_ends look go b rs e h = ends_runs b b rs e (look go) refl (h go)
 
 -- a row ends with an error that shows no text
 pub error_ends : (w : LibWorld) (rs : List Value) (e : RunErr) (row : model.LibAnswer) → IsKnown w.names e → row ≡ model.ErrsWith (meant_error w.names e) → Runs w w rs rs (Err (RunError e)) row
