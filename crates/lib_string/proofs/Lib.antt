@@ -2,6 +2,7 @@ pub mod AddedTexts
 pub mod CodeRows
 pub mod CodeValues
 pub mod GivenValues
+pub mod ListedTables
 pub mod PieceTexts
 pub mod RepeatedRows
 pub mod Spans
