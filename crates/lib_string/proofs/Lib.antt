@@ -1,8 +1,11 @@
 pub mod AddedTexts
 pub mod CodeRows
 pub mod CodeValues
+pub mod DirectiveRows
 pub mod GivenValues
 pub mod ListedTables
+pub mod MetaRows
+pub mod NumbersThere
 pub mod PieceTexts
 pub mod RepeatedRows
 pub mod Spans

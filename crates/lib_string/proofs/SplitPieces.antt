@@ -97,6 +97,7 @@ module _ (hay sep : Bytes) (some : 0 < length sep) where
 
   mutual
     unfolding split_at matches_from
+
     searching : (n i last : ℕ) → last ≤ i → i + n ≡ length hay + 1 → split_at hay (length sep) last (matches_from hay sep 0 i n) ≡ pieces sep 0 (part last i hay) (drop i hay)
     searching zero i last le e = ended last i le (omega arith)
     searching (suc n) i last le e =

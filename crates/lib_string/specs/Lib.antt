@@ -1,4 +1,6 @@
 pub mod Changes
 pub mod Codes
+pub mod Directives
+pub mod Formats
 pub mod Pieces
 pub mod Reading

@@ -1,132 +1,103 @@
 //! The texts that directives make of their arguments.
 
-ghost use Rattle.std.specs.Prelude.{◌≡◌, ◌<◌, ◌++◌, length, map, IfErr, OnOk};
+ghost use Rattle.std.specs.Prelude.{◌≡◌, ◌<◌, ◌++◌, List, length, map, false, true, IfOk, OnOk};
+ghost use Rattle.std.specs.Fmt.{digits, signed_decimal};
+ghost use Rattle.std.specs.String.{string_bytes};
 ghost use Rattle.lib_arguments.specs.Checks.{most_arguments};
-ghost use Rattle.lib_arguments.specs.Rows.{IsKnownEnding};
-ghost use Rattle.lib_string.specs.Formats.{field_of, Fills};
+ghost use Rattle.lib_string.specs.Directives.{field_of};
+ghost use Rattle.lib_string.specs.Formats.{Writes};
 ghost use Rattle.lib_string.specs.Reading.{MayUseAll};
-ghost use Rattle.luau_tables.specs.Worlds.{IsWorld, MayUseIn, store_in};
+ghost use Rattle.luau_tables.specs.Globals.{plain_text};
+ghost use Rattle.luau_tables.specs.Worlds.{store_in};
 ghost use Rattle.value_model.specs.FormatRows as row;
 ghost use Rattle.value_model.specs.Parts.{meant};
+ghost use Rattle.value_model.specs.Values.{Bytes};
 
 use crate::arguments::number_at;
-use crate::directive::{Field, Form};
+use crate::characters::byte_of;
+use crate::directive::Field;
 use crate::filling::fit_into;
-use lib_arguments::{Ending, any_at, out_of_range};
+use lib_arguments::{Ending, out_of_range};
 use luau_tables::{LibWorld, plain_into};
 use resource::OutOfMemory;
 use std::alloc::Global;
-use value_model::{Builtin, TableId, Value};
+use value_model::{Builtin, Value};
 use whole_num::{Whole, print_into};
 
-/// A value whose text its `__tostring` has to give.
-#[derive(Clone, Copy)]
-pub(crate) struct Asking {
-    pub handler: Value,
-    pub value: Value,
-}
-
-/// Appends what a directive makes of its argument. Nothing is appended where a `__tostring` has to be called.
-pub(crate) fn directive_into(
-    alloc: Global,
-    field: Field,
-    at: usize,
-    args: &[Value],
-    world: &LibWorld,
-    out: &mut Vec<u8>,
-) -> Result<Option<Asking>, Ending>
-    requires place { at < most_arguments }
-    requires world { IsWorld world.now }
-    requires args { MayUseAll world.now args.now }
-    ensures fills { Fills world.now at args.now out.old.items out.new.items (field_of field) result }
-    ensures known { IfErr result (IsKnownEnding world.now.names) }
-    ensures there { OnOk result (at < length args.now) }
-{
-    match field.form {
-        Form::Text => text_into(alloc, field, at, args, world, out),
-        Form::Decimal => {
-            let number = number_at(Builtin::StringFormat, at, args, world)?;
-            decimal_into(alloc, field, number, out)?;
-            Ok(None)
-        }
-        Form::Hex(capital) => {
-            let number = number_at(Builtin::StringFormat, at, args, world)?;
-            hex_into(alloc, field, capital, at, number, out)?;
-            Ok(None)
-        }
-        Form::Byte => {
-            let number = number_at(Builtin::StringFormat, at, args, world)?;
-            byte_into(field, at, number, out)?;
-            Ok(None)
-        }
-    }
-}
-
-// The text of a value.
-fn text_into(
-    alloc: Global,
-    field: Field,
-    at: usize,
-    args: &[Value],
-    world: &LibWorld,
-    out: &mut Vec<u8>,
-) -> Result<Option<Asking>, Ending> {
-    let value = any_at(Builtin::StringFormat, at, args)?;
-    match text_handler(value, world) {
-        Value::Nil => {
-            plain_text_into(alloc, field, value, world, out)?;
-            Ok(None)
-        }
-        handler => Ok(Some(Asking { handler, value })),
-    }
-}
-
-// The text of a value where no `__tostring` is asked.
-fn plain_text_into(
+/// Appends the text of a value where no `__tostring` is asked.
+pub(crate) fn plain_text_into(
     alloc: Global,
     field: Field,
     value: Value,
     world: &LibWorld,
     out: &mut Vec<u8>,
-) -> Result<(), OutOfMemory> {
+) -> Result<(), OutOfMemory>
+    ensures { OnOk result (out.new.items ≡ out.old.items ++ row.fitted (field_of field) false (plain_text world.now.names world.now.globals value)) }
+{
     let mut text = Vec::new(alloc);
     plain_into(&world.arena, &world.names, &world.globals, value, &mut text)?;
     fit_into(field, false, text.as_slice(), out)
 }
 
-// What the metatable of a value says under `__tostring`, or nil.
-fn text_handler(value: Value, world: &LibWorld) -> Value {
-    match value {
-        Value::Table(id) => match world.arena.table(id).meta() {
-            Some(meta) => text_handler_in(meta, world),
-            None => Value::Nil,
+/// Appends an argument that is a number, in decimal.
+pub(crate) fn decimal_at(
+    alloc: Global,
+    field: Field,
+    at: usize,
+    args: &[Value],
+    world: &LibWorld,
+    out: &mut Vec<u8>,
+) -> Result<(), Ending>
+    requires place { at < most_arguments }
+    requires args { MayUseAll world.now args.now }
+    ensures writes { Writes world.now.names out.old.items out.new.items (row.directive_text (store_in world.now) (map (meant world.now.names) args.now) at out.old.items (field_of field) row.AsDecimal) result }
+    ensures there { OnOk result (at < length args.now) }
+{
+    match number_at(Builtin::StringFormat, at, args, world) {
+        Ok(number) => match decimal_into(alloc, field, number, out) {
+            Ok(()) => Ok(()),
+            Err(OutOfMemory) => Err(Ending::OutOfMemory),
         },
-        Value::Str(_) => text_handler_in(world.globals.string_meta, world),
-        _ => Value::Nil,
+        Err(ending) => Err(ending),
     }
 }
 
-// What a table says under `__tostring`.
-fn text_handler_in(table: TableId, world: &LibWorld) -> Value {
-    world
-        .arena
-        .table(table)
-        .value(Value::Str(world.globals.meta.tostring))
-}
-
-// A number in decimal.
+// Appends a number in decimal.
 fn decimal_into(
     alloc: Global,
     field: Field,
     number: Whole,
     out: &mut Vec<u8>,
-) -> Result<(), OutOfMemory> {
+) -> Result<(), OutOfMemory>
+    ensures { OnOk result (out.new.items ≡ out.old.items ++ row.fitted (field_of field) true (signed_decimal number)) }
+{
     let mut text = Vec::new(alloc);
     print_into(number, &mut text)?;
     fit_into(field, true, text.as_slice(), out)
 }
 
-// A number from 0 on in hexadecimal.
+/// Appends an argument that is a number from 0 on, in hexadecimal.
+pub(crate) fn hex_at(
+    alloc: Global,
+    field: Field,
+    capital: bool,
+    at: usize,
+    args: &[Value],
+    world: &LibWorld,
+    out: &mut Vec<u8>,
+) -> Result<(), Ending>
+    requires place { at < most_arguments }
+    requires args { MayUseAll world.now args.now }
+    ensures writes { Writes world.now.names out.old.items out.new.items (row.directive_text (store_in world.now) (map (meant world.now.names) args.now) at out.old.items (field_of field) (row.AsHex capital)) result }
+    ensures there { OnOk result (at < length args.now) }
+{
+    match number_at(Builtin::StringFormat, at, args, world) {
+        Ok(number) => hex_into(alloc, field, capital, at, number, out),
+        Err(ending) => Err(ending),
+    }
+}
+
+// Appends a number from 0 on in hexadecimal.
 fn hex_into(
     alloc: Global,
     field: Field,
@@ -134,17 +105,37 @@ fn hex_into(
     at: usize,
     number: Whole,
     out: &mut Vec<u8>,
-) -> Result<(), Ending> {
-    if number.get() < 0 {
-        return Err(out_of_range(Builtin::StringFormat, at));
+) -> Result<(), Ending>
+    requires { at < most_arguments }
+    ensures { (texts : List Bytes) → Writes texts out.old.items out.new.items (λ go. row.hex_text (field_of field) capital at go number) result }
+{
+    match u64::try_from(number.get()) {
+        Ok(number) => match hex_digits_into(alloc, field, capital, number, out) {
+            Ok(()) => Ok(()),
+            Err(OutOfMemory) => Err(Ending::OutOfMemory),
+        },
+        Err(_) => Err(out_of_range(Builtin::StringFormat, at)),
     }
-    let text = hex_text(alloc, capital, number.get() as u64)?;
-    fit_into(field, true, text.as_bytes(), out)?;
-    Ok(())
+}
+
+// Appends the digits of a number in hexadecimal.
+fn hex_digits_into(
+    alloc: Global,
+    field: Field,
+    capital: bool,
+    number: u64,
+    out: &mut Vec<u8>,
+) -> Result<(), OutOfMemory>
+    ensures { OnOk result (out.new.items ≡ out.old.items ++ row.fitted (field_of field) true (digits 16 capital number)) }
+{
+    let text = hex_text(alloc, capital, number)?;
+    fit_into(field, true, text.as_bytes(), out)
 }
 
 // The digits of a number in hexadecimal.
-fn hex_text(alloc: Global, capital: bool, number: u64) -> Result<String, OutOfMemory> {
+fn hex_text(alloc: Global, capital: bool, number: u64) -> Result<String, OutOfMemory>
+    ensures { IfOk result (λ s. string_bytes s ≡ digits 16 capital number) }
+{
     if capital {
         Ok(format!(in alloc; "{number:X}")?)
     } else {
@@ -152,12 +143,35 @@ fn hex_text(alloc: Global, capital: bool, number: u64) -> Result<String, OutOfMe
     }
 }
 
-// The byte of a number.
-fn byte_into(field: Field, at: usize, number: Whole, out: &mut Vec<u8>) -> Result<(), Ending> {
-    let number = number.get();
-    if number < 0 || number > 255 {
-        return Err(out_of_range(Builtin::StringFormat, at));
+/// Appends the byte of an argument that is its number.
+pub(crate) fn byte_at(
+    field: Field,
+    at: usize,
+    args: &[Value],
+    world: &LibWorld,
+    out: &mut Vec<u8>,
+) -> Result<(), Ending>
+    requires place { at < most_arguments }
+    requires args { MayUseAll world.now args.now }
+    ensures writes { Writes world.now.names out.old.items out.new.items (row.directive_text (store_in world.now) (map (meant world.now.names) args.now) at out.old.items (field_of field) row.AsByte) result }
+    ensures there { OnOk result (at < length args.now) }
+{
+    match number_at(Builtin::StringFormat, at, args, world) {
+        Ok(number) => byte_into(field, at, number, out),
+        Err(ending) => Err(ending),
     }
-    fit_into(field, false, &[number as u8], out)?;
-    Ok(())
+}
+
+// Appends the byte of a number.
+fn byte_into(field: Field, at: usize, number: Whole, out: &mut Vec<u8>) -> Result<(), Ending>
+    requires { at < most_arguments }
+    ensures { (texts : List Bytes) → Writes texts out.old.items out.new.items (λ go. row.byte_text (field_of field) at go number) result }
+{
+    match byte_of(number) {
+        Some(byte) => match fit_into(field, false, &[byte], out) {
+            Ok(()) => Ok(()),
+            Err(OutOfMemory) => Err(Ending::OutOfMemory),
+        },
+        None => Err(out_of_range(Builtin::StringFormat, at)),
+    }
 }

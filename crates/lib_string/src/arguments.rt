@@ -1,6 +1,6 @@
 //! Arguments, read in a world: nothing but texts may come to it.
 
-ghost use Rattle.std.specs.Prelude.{◌≡◌, ◌<◌, length, map, IfOk};
+ghost use Rattle.std.specs.Prelude.{◌≡◌, ◌<◌, length, map, IfOk, OnOk};
 ghost use Rattle.lib_arguments.specs.Checks.{Checks, most_arguments};
 ghost use Rattle.lib_string.specs.Reading.{MayUseAll, Reads};
 ghost use Rattle.luau_tables.specs.Worlds.{IsWorld};
@@ -60,7 +60,8 @@ pub(crate) fn number_at(
 ) -> Result<Whole, Ending>
     requires place { i < most_arguments }
     requires args { MayUseAll world.now args.now }
-    ensures { Checks world.now.names (λ z. z) (row.number_at f i (map (meant world.now.names) args.now)) result }
+    ensures checks { Checks world.now.names (λ z. z) (row.number_at f i (map (meant world.now.names) args.now)) result }
+    ensures there { OnOk result (i < length args.now) }
 {
     lib_arguments::number_at(f, i, &world.names, args)
 }

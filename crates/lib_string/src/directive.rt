@@ -1,8 +1,9 @@
 //! The directives of a format.
 
-ghost use Rattle.std.specs.Prelude.{◌≡◌, ◌<◌, ◌≤◌, length, pos};
-ghost use Rattle.lib_string.specs.Formats.{field_of, form_of, piece_of};
+ghost use Rattle.std.specs.Prelude.{◌≡◌, ◌+◌, ◌≤◌, Bool, false, length, option_map};
+ghost use Rattle.lib_string.specs.Directives.{field_of, form_of, piece_of};
 ghost use Rattle.value_model.specs.FormatRows as row;
+ghost use Rattle.value_model.specs.Values.{Bytes};
 
 /// What a directive wants of its argument.
 #[derive(Clone, Copy)]
@@ -34,7 +35,8 @@ pub(crate) enum Piece {
 
 /// The piece that begins with a byte, and what stands behind it.
 pub(crate) fn read_piece(byte: u8, rest: &[u8]) -> (Piece, &[u8])
-    ensures { (piece_of result.0, result.1.now) ≡ row.read_piece byte rest.now }
+    ensures piece { (piece_of result.0, result.1.now) ≡ row.read_piece byte rest.now }
+    ensures behind { length result.1.now ≤ length rest.now }
 {
     if byte == b'%' {
         read_directive(rest)
@@ -45,7 +47,8 @@ pub(crate) fn read_piece(byte: u8, rest: &[u8]) -> (Piece, &[u8])
 
 // The piece behind a `%`.
 fn read_directive(rest: &[u8]) -> (Piece, &[u8])
-    ensures { (piece_of result.0, result.1.now) ≡ row.read_directive rest.now }
+    ensures piece { (piece_of result.0, result.1.now) ≡ row.read_directive rest.now }
+    ensures behind { length result.1.now ≤ length rest.now }
 {
     match rest {
         [] => (Piece::Malformed, rest),
@@ -69,7 +72,8 @@ fn plain_text() -> Field
 
 // A `-`, a `0`, a width and a letter.
 fn read_field(rest: &[u8]) -> (Piece, &[u8])
-    ensures { (piece_of result.0, result.1.now) ≡ row.read_field (row.optional_byte 45 rest.now) }
+    ensures piece { (piece_of result.0, result.1.now) ≡ row.read_field (row.optional_byte 45 rest.now) }
+    ensures behind { length result.1.now ≤ length rest.now }
 {
     let (left, rest) = optional_byte(b'-', rest);
     let (zeros, rest) = optional_byte(b'0', rest);
@@ -79,7 +83,8 @@ fn read_field(rest: &[u8]) -> (Piece, &[u8])
 
 // Whether a byte stands first, and what stands behind it.
 fn optional_byte(byte: u8, rest: &[u8]) -> (bool, &[u8])
-    ensures { (result.0, result.1.now) ≡ row.optional_byte byte rest.now }
+    ensures found { (result.0, result.1.now) ≡ row.optional_byte byte rest.now }
+    ensures behind { length result.1.now ≤ length rest.now }
 {
     match rest {
         [first, behind @ ..] if *first == byte => (true, behind),
@@ -89,7 +94,8 @@ fn optional_byte(byte: u8, rest: &[u8]) -> (bool, &[u8])
 
 // A width of at most two digits, and what stands behind it. It is 0 where there is none.
 fn read_width(rest: &[u8]) -> (usize, &[u8])
-    ensures { (l z : Bool) → row.read_letter l z result.0 result.1.now ≡ row.read_width l z rest.now }
+    ensures width { (l z : Bool) → row.read_letter l z result.0 result.1.now ≡ row.read_width l z rest.now }
+    ensures behind { length result.1.now ≤ length rest.now }
 {
     match rest {
         [tens @ b'0'..=b'9', ones @ b'0'..=b'9', behind @ ..] => (
@@ -110,7 +116,8 @@ fn digit(byte: u8) -> usize
 
 // The letter of a directive.
 fn read_letter(left: bool, zeros: bool, width: usize, rest: &[u8]) -> (Piece, &[u8])
-    ensures { (piece_of result.0, result.1.now) ≡ row.read_letter left zeros width rest.now }
+    ensures piece { (piece_of result.0, result.1.now) ≡ row.read_letter left zeros width rest.now }
+    ensures behind { length result.1.now ≤ length rest.now }
 {
     match rest {
         [] => (Piece::Malformed, rest),

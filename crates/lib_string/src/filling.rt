@@ -1,7 +1,7 @@
 //! Texts that are filled to a width.
 
-ghost use Rattle.std.specs.Prelude.{◌≡◌, ◌++◌, OnOk};
-ghost use Rattle.lib_string.specs.Formats.{field_of};
+ghost use Rattle.std.specs.Prelude.{◌≡◌, ◌++◌, replicate, OnOk};
+ghost use Rattle.lib_string.specs.Directives.{field_of};
 ghost use Rattle.value_model.specs.FormatRows as row;
 
 use crate::directive::Field;

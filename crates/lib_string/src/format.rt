@@ -2,8 +2,8 @@
 
 ghost use Rattle.std.specs.Prelude.{◌≡◌, IfOk};
 
-use crate::argument_text::{Asking, directive_into};
 use crate::arguments::text_at;
+use crate::asking::{Asking, directive_into};
 use crate::directive::{Field, Piece, read_piece};
 use crate::filling::{append, fit_into};
 use crate::giving::give_text;

@@ -3,12 +3,14 @@
 
 mod argument_text;
 mod arguments;
+mod asking;
 mod calls;
 mod characters;
 mod directive;
 mod filling;
 mod format;
 mod giving;
+mod metatable;
 mod positions;
 mod repetition;
 mod split;

@@ -23,7 +23,7 @@ returns-in-Err-number_at-clause-runs c =
     let rs = c.args.results.now.items in
     let e = c.in-Err-number_at.ending in
     text_then StringRep rep_rest c.args.world.now b c.args.args.now c.requires.world c.in-Ok.ensures.reads b rs rs (Err e) c.in-Ok.text c.in-Ok.ensures.checks
-    (number_ends (arg.number_at StringRep 1 (map (meant b.names) c.args.args.now)) (λ n. rep_text (store_in b) (text_of b c.in-Ok.text) (natural n)) b rs e c.in-Err-number_at.ensures)
+    (number_ends (arg.number_at StringRep 1 (map (meant b.names) c.args.args.now)) (λ n. rep_text (store_in b) (text_of b c.in-Ok.text) (natural n)) b rs e c.in-Err-number_at.ensures.checks)
 
 pub returns-clause-runs : goal.returns-clause-runs
 unfolding rep_rest
@@ -34,5 +34,5 @@ returns-clause-runs c =
     let rs' = c.rep_text.new.results.items in
     let row = λ (n : ℕ). rep_text (store_in b) (text_of b c.in-Ok.text) n in
     text_then StringRep rep_rest c.args.world.now b c.args.args.now c.requires.world c.in-Ok.ensures.reads after rs rs' c.rep_text.result c.in-Ok.text c.in-Ok.ensures.checks
-    (number_then (arg.number_at StringRep 1 (map (meant b.names) c.args.args.now)) (λ n. row (natural n)) b after rs rs' c.rep_text.result c.in-Ok-number_at.count c.in-Ok-number_at.ensures
+    (number_then (arg.number_at StringRep 1 (map (meant b.names) c.args.args.now)) (λ n. row (natural n)) b after rs rs' c.rep_text.result c.in-Ok-number_at.count c.in-Ok-number_at.ensures.checks
     (subst (λ n. Runs b after rs rs' c.rep_text.result (row n)) c.natural.ensures c.rep_text.ensures.runs))

@@ -52,8 +52,8 @@ returns-in-Ok-split_at-clause-runs c =
     let more = c.in-Ok-text_or.ensures.reads.adds in
     let same = bytes_more b.names d.names more.extends text.0 c.in-Ok.ensures.number in
     let given = gives_runs d after rs rs' (Table t ∷ []) c.give.result (split_into (text_of b text) (store_in d) (text_of d sep)) c.give.ensures (made.table.1, tt)
-        (ap (λ r. model.Answers (m.Table r ∷ []) (with_new_table (store_in d) (put_all empty_table (pos 1) (map (λ p. m.Text p) (row.split_at (text_of d sep) (text_of b text)))))) (sym made.table.0)
-        ∙ ap (λ (bs : Bytes). model.Answers (m.Table (table_ref t) ∷ []) (with_new_table (store_in d) (put_all empty_table (pos 1) (map (λ p. m.Text p) (row.split_at (text_of d sep) bs))))) (sym same)
-        ∙ ap (λ s. model.Answers (m.Table (table_ref t) ∷ []) s) (sym made.store)) in
+    (ap (λ r. model.Answers (m.Table r ∷ []) (with_new_table (store_in d) (put_all empty_table (pos 1) (map (λ p. m.Text p) (row.split_at (text_of d sep) (text_of b text)))))) (sym made.table.0)
+    ∙ ap (λ (bs : Bytes). model.Answers (m.Table (table_ref t) ∷ []) (with_new_table (store_in d) (put_all empty_table (pos 1) (map (λ p. m.Text p) (row.split_at (text_of d sep) bs))))) (sym same)
+    ∙ ap (λ s. model.Answers (m.Table (table_ref t) ∷ []) s) (sym made.store)) in
     text_then StringSplit split_rest c.args.world.now b c.args.args.now c.requires.world c.in-Ok.ensures.reads after rs rs' c.give.result text c.in-Ok.ensures.checks
     (look_runs (text_of d) (arg.text_or StringSplit 1 (map (meant b.names) c.args.args.now) (44 ∷ [])) (split_into (text_of b text)) b d c.in-Ok.ensures.reads.world more after rs rs' c.give.result sep c.in-Ok-text_or.ensures.checks given)

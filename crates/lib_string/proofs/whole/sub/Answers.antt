@@ -25,7 +25,7 @@ returns-in-Err-number_at-clause-runs c =
     let rs = c.args.results.now.items in
     let vs = map (meant b.names) c.args.args.now in
     text_then StringSub sub_rest c.args.world.now b c.args.args.now c.requires.world c.in-Ok.ensures.reads b rs rs (Err c.in-Err-number_at.ending) c.in-Ok.text c.in-Ok.ensures.checks
-    (number_ends (arg.number_at StringSub 1 vs) (λ i. arg.number_or StringSub 2 vs (negsuc 0) (λ j. gives (store_in b) (m.Text (bytes_between (text_of b c.in-Ok.text) i j)))) b rs c.in-Err-number_at.ending c.in-Err-number_at.ensures)
+    (number_ends (arg.number_at StringSub 1 vs) (λ i. arg.number_or StringSub 2 vs (negsuc 0) (λ j. gives (store_in b) (m.Text (bytes_between (text_of b c.in-Ok.text) i j)))) b rs c.in-Err-number_at.ending c.in-Err-number_at.ensures.checks)
 
 pub returns-in-Err-number_or-clause-runs : goal.returns-in-Err-number_or-clause-runs
 unfolding sub_rest
@@ -37,7 +37,7 @@ returns-in-Err-number_or-clause-runs c =
     let e = c.in-Err-number_or.ending in
     let ends = number_ends (arg.number_or StringSub 2 vs (negsuc 0)) (part c.in-Ok-number_at.first) b rs e (subst (λ d. Checks {A = ℤ} b.names (λ z. z) (arg.number_or StringSub 2 vs d) (Err e)) c.whole.ensures c.in-Err-number_or.ensures) in
     text_then StringSub sub_rest c.args.world.now b c.args.args.now c.requires.world c.in-Ok.ensures.reads b rs rs (Err e) c.in-Ok.text c.in-Ok.ensures.checks
-    (number_then (arg.number_at StringSub 1 vs) (λ i. arg.number_or StringSub 2 vs (negsuc 0) (part i)) b b rs rs (Err e) c.in-Ok-number_at.first c.in-Ok-number_at.ensures ends)
+    (number_then (arg.number_at StringSub 1 vs) (λ i. arg.number_or StringSub 2 vs (negsuc 0) (part i)) b b rs rs (Err e) c.in-Ok-number_at.first c.in-Ok-number_at.ensures.checks ends)
 
 pub returns-clause-runs : goal.returns-clause-runs
 unfolding sub_rest
@@ -54,4 +54,4 @@ returns-clause-runs c =
     let given = c.give_made.ensures.runs (bytes_between (text_of b c.in-Ok.text) i j) c.part_of.ensures in
     let last = number_then (arg.number_or StringSub 2 vs (negsuc 0)) (part i) b after rs rs' done j (subst (λ d. Checks {A = ℤ} b.names (λ z. z) (arg.number_or StringSub 2 vs d) (Ok j)) c.whole.ensures c.in-Ok-number_or.ensures) given in
     text_then StringSub sub_rest c.args.world.now b c.args.args.now c.requires.world c.in-Ok.ensures.reads after rs rs' done c.in-Ok.text c.in-Ok.ensures.checks
-    (number_then (arg.number_at StringSub 1 vs) (λ i. arg.number_or StringSub 2 vs (negsuc 0) (part i)) b after rs rs' done i c.in-Ok-number_at.ensures last)
+    (number_then (arg.number_at StringSub 1 vs) (λ i. arg.number_or StringSub 2 vs (negsuc 0) (part i)) b after rs rs' done i c.in-Ok-number_at.ensures.checks last)
