@@ -1,6 +1,7 @@
 -- The rows of directives.
-use Rattle.std.proofs.Common.{◌≡◌, ℕ, Bool, true, false, List, [], ◌∷◌, ◌++◌, map, Option, Some, None, Result, Ok, Err, codes, cond, refl, sym, ◌∙◌, ap, subst, ℤ}
-use Rattle.std.specs.Fmt.{signed_decimal}
+use Rattle.std.proofs.Common.{◌≡◌, ℕ, Bool, true, false, List, [], ◌∷◌, ◌++◌, map, Option, Some, None, Result, Ok, Err, codes, cond, refl, sym, ◌∙◌, ap, subst, arith, ◌^◌, ◌≤ℤ◌, ℤ, pos, negsuc}
+use Rattle.std.proofs.lemmas.Int.{ints}
+use Rattle.std.specs.Int.{FitsUnsignedBits}
 use Rattle.value_model.specs.Answers as model
 use Rattle.value_model.specs.Arguments as arg
 use Rattle.value_model.specs.CoreRows.{text_of_value}
@@ -57,7 +58,7 @@ module _ (w : LibWorld) (args : List Value) (at : ℕ) (v : Value) (found : (go 
       ∙ ap (λ h. text_of_value (store_in w) (meant w.names v) (record { builtin = StringFormat; arguments = map (meant w.names) args; at = at; text = text }) (λ bs. go (row.fitted d false bs)) h) (sym e)
 
   plain_same : name.plain_text (store_in w) (meant w.names v) ≡ plain_text w.names w.globals v
-  unfolding plain_text store_of name.plain_text
+  unfolding plain_text store_of
   plain_same = refl
 
   -- there is none
@@ -89,3 +90,12 @@ module _ (w : LibWorld) (args : List Value) (at : ℕ) (v : Value) (found : (go 
       Fills w args at text text d row.AsText (Ok (Some (record { handler = h; value = v })))
   handler_fills text d h may mayv says some =
       (refl, (may, mayv), λ go. by_handler text d go (meant w.names h) says ∙ handler_asks (store_in w) (meant w.names v) (record { builtin = StringFormat; arguments = map (meant w.names) args; at = at; text = text }) (λ bs. go (row.fitted d false bs)) h some)
+
+-- ---- numbers in hexadecimal
+
+no_hex : (d : row.Field) (capital : Bool) (i : ℕ) (go : Bytes → model.LibAnswer) (z : ℤ) → (FitsUnsignedBits 64 z → ⊥) → z ≤ℤ pos (2 ^ 53) → arg.out_of_range StringFormat i ≡ row.hex_text d capital i go z
+no_hex d capital i go (pos n) out small = absurd (out (omega (arith, ints)))
+no_hex d capital i go (negsuc n) out small = refl
+
+pub no_hex_text : (texts : List Bytes) (d : row.Field) (capital : Bool) (i : ℕ) (z : ℤ) (e : Ending) (go : Bytes → model.LibAnswer) → (FitsUnsignedBits 64 z → ⊥) → z ≤ℤ pos (2 ^ 53) → Fails texts (arg.out_of_range StringFormat i) e → Fails texts (row.hex_text d capital i go z) e
+no_hex_text texts d capital i z e go out small h = subst (λ row. Fails texts row e) (no_hex d capital i go z out small) h
