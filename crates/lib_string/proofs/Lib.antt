@@ -2,11 +2,14 @@ pub mod AddedTexts
 pub mod CodeRows
 pub mod CodeValues
 pub mod DirectiveRows
+pub mod FormatAnswers
+pub mod FormatSteps
 pub mod GivenValues
 pub mod ListedTables
 pub mod MetaRows
 pub mod NumbersThere
 pub mod PieceTexts
+pub mod PiecesRead
 pub mod RepeatedRows
 pub mod Spans
 pub mod SplitPieces

@@ -24,6 +24,6 @@ returns-in_default c =
     let w = c.args.world.now in
     record {
       fills = handler_fills w c.args.args.now c.args.at c.in-Ok.value (c.in-Ok.ensures.checks w.names) c.args.out.now.items (field_of c.args.field) c.tostring_of.result
-        c.tostring_of.ensures.usable (used_at w c.args.args.now c.args.at c.in-Ok.value c.requires.args c.in-Ok.ensures.there) c.tostring_of.ensures.meant c.in_default.not-Nil;
+          c.tostring_of.ensures.usable (used_at w c.args.args.now c.args.at c.in-Ok.value c.requires.args c.in-Ok.ensures.there) c.tostring_of.ensures.meant c.in_default.not-Nil;
       there = slice_get_within c.args.args.now c.args.at c.in-Ok.value c.in-Ok.ensures.there;
     }
