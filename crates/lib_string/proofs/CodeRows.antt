@@ -92,6 +92,3 @@ module _ (texts : List Bytes) (args : List Kept) (i : ℕ) (zs : List ℤ) (go :
 pub numbers_found : {A : Type 0} (texts : List Bytes) (mean : A → List ℤ) (vs : List Value) (z : ℤ) (result : Result A Ending) → Checks {A = ℤ} texts (λ z. z) (number_at StringChar 0 vs) (Ok z) → Checks texts mean (numbers_then 1 (z ∷ []) (drop 1 vs)) result → Checks texts mean (char_numbers vs) result
 numbers_found texts mean vs z (Ok a) h k = λ go. h (λ z. numbers_then 1 (z ∷ []) (drop 1 vs) go) ∙ k go
 numbers_found texts mean vs z (Err e) h k = λ go. subst (λ row. Fails texts row e) (sym (h (λ z. numbers_then 1 (z ∷ []) (drop 1 vs) go))) (k go)
-
-pub numbers_missed : {A : Type 0} (texts : List Bytes) (mean : A → List ℤ) (vs : List Value) (e : Ending) → Checks {A = ℤ} texts (λ z. z) (number_at StringChar 0 vs) (Err e) → Checks texts mean (char_numbers vs) (Err e)
-numbers_missed texts mean vs e h = λ go. h (λ z. numbers_then 1 (z ∷ []) (drop 1 vs) go)

@@ -1,4 +1,5 @@
 pub mod AddedTexts
+pub mod BuiltinRows
 pub mod CodeRows
 pub mod CodeValues
 pub mod DirectiveRows

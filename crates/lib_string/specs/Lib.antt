@@ -1,4 +1,5 @@
 pub mod Answering
+pub mod Builtins
 pub mod Changes
 pub mod Codes
 pub mod Directives
