@@ -1,19 +1,17 @@
 -- Texts come to a world: what stays, and how rows run on.
 use Rattle.std.proofs.Common.{◌≡◌, List, map, Result, Ok, Err, refl, sym, ◌∙◌, ap, subst}
-use Rattle.std.specs.List.{AllByRecursion}
 use Rattle.value_model.specs.Answers as model
 use Rattle.value_model.specs.Parts.{meant}
 use Rattle.value_model.specs.Store.{Store}
 use Rattle.value_model.specs.Values.{Bytes}
 use Rattle.value_model.specs.declared.value.Value.{Value}
-use Rattle.luau_tables.specs.Answers.{Answered}
 use Rattle.luau_tables.specs.Own.{AreTexts}
 use Rattle.luau_tables.specs.Worlds.{IsWorld, MayUseIn, Keeps, Extends, ChangesTables, store_in}
 use Rattle.luau_tables.specs.declared.globals.LibWorld.{LibWorld}
-use Rattle.luau_tables.proofs.MoreTexts.{extends_self, extends_on, all_meant_more, meant_more, more_texts, store_more, use_more}
+use Rattle.luau_tables.proofs.MoreTexts.{extends_self, extends_on, all_meant_more, more_texts, store_more, use_more}
 use Rattle.luau_tables.proofs.OwnKept.{changes_nothing}
-use Rattle.lib_arguments.specs.Checks.{Checks, Fails}
-use Rattle.lib_arguments.specs.Rows.{Runs, Ends, LeavesStore}
+use Rattle.lib_arguments.specs.Checks.{Checks}
+use Rattle.lib_arguments.specs.Rows.{Runs, LeavesStore}
 use Rattle.lib_arguments.specs.declared.ending.Ending.{Ending}
 use Rattle.lib_arguments.proofs.RowsRun.{each_map, ends_runs, found, have_texts}
 use Rattle.lib_string.specs.Reading.{AddsTexts, MayUseAll, Reads}

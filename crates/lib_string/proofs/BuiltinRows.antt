@@ -14,7 +14,6 @@ use Rattle.luau_tables.specs.Answers.{raised_by, Answered}
 use Rattle.luau_tables.specs.declared.answer.LibAnswer.{LibAnswer}
 use Rattle.luau_tables.specs.declared.globals.LibWorld.{LibWorld}
 use Rattle.lib_arguments.specs.declared.ending.Ending.{Ending}
-use Rattle.lib_arguments.specs.Rows.{Runs}
 use Rattle.lib_arguments.proofs.RowsRun.{runs_answered, runs_unanswered}
 use Rattle.lib_string.specs.Answering.{AnswersOrEnds, closed}
 use Rattle.lib_string.specs.Builtins.{IsOfString}

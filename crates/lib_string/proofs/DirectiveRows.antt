@@ -1,5 +1,5 @@
 -- The rows of directives.
-use Rattle.std.proofs.Common.{◌≡◌, ℕ, Bool, true, false, List, [], ◌∷◌, ◌++◌, map, Option, Some, None, Result, Ok, Err, codes, cond, refl, sym, ◌∙◌, ap, subst, arith, ◌^◌, ◌≤ℤ◌, ℤ, pos, negsuc}
+use Rattle.std.proofs.Common.{◌≡◌, ℕ, Bool, false, List, [], ◌∷◌, ◌++◌, map, Some, Result, Ok, Err, codes, cond, refl, sym, ◌∙◌, ap, subst, arith, ◌^◌, ◌≤ℤ◌, ℤ, pos, negsuc}
 use Rattle.std.proofs.lemmas.Int.{ints}
 use Rattle.std.specs.Int.{FitsUnsignedBits}
 use Rattle.value_model.specs.Answers as model
@@ -17,14 +17,13 @@ use Rattle.value_model.specs.Waits as wait
 use Rattle.value_model.specs.declared.builtin.Builtin.TheVariants.{StringFormat}
 use Rattle.value_model.specs.declared.value.Value.{Value}
 use Rattle.value_model.specs.declared.value.Value.TheVariants as value
-use Rattle.luau_tables.specs.Globals.{globals_of, plain_text}
+use Rattle.luau_tables.specs.Globals.{plain_text}
 use Rattle.luau_tables.specs.Part.{store_of}
 use Rattle.luau_tables.specs.Worlds.{MayUseIn, store_in}
 use Rattle.luau_tables.specs.declared.globals.LibWorld.{LibWorld}
 use Rattle.lib_arguments.specs.Checks.{Checks, Fails}
 use Rattle.lib_arguments.specs.declared.ending.Ending.{Ending}
-use Rattle.lib_string.specs.Formats.{Appends, Writes, Fills, MayAsk, asks, unasked}
-use Rattle.lib_string.specs.declared.asking.Asking.{Asking}
+use Rattle.lib_string.specs.Formats.{Appends, Writes, Fills, unasked}
 
 -- ---- numbers
 

@@ -1,5 +1,5 @@
 -- The pieces of a format are filled in one by one.
-use Rattle.std.proofs.Common.{◌≡◌, ℕ, suc, ◌+◌, List, [], ◌∷◌, ◌++◌, map, Option, Some, None, Result, Ok, Err, refl, sym, ◌∙◌, ap, subst, add-one}
+use Rattle.std.proofs.Common.{◌≡◌, ℕ, suc, ◌+◌, List, [], ◌∷◌, ◌++◌, map, Some, None, Ok, Err, sym, ◌∙◌, ap, subst, add-one}
 use Rattle.value_model.specs.Answers as model
 use Rattle.value_model.specs.FormatRows as row
 use Rattle.value_model.specs.Parts.{meant, meant_error}

@@ -3,7 +3,7 @@ use Rattle.std.proofs.Common.{◌≡◌, List, [], ◌∷◌, slice_get, Some, R
 use Rattle.std.proofs.lemmas.Option.{get_or_from_slice_get, slice_get_within}
 use Rattle.byte_text.specs.declared.fixed.StrId.{StrId}
 use Rattle.value_model.specs.CoreRows.{gives}
-use Rattle.value_model.specs.Parts.{meant, bytes_at}
+use Rattle.value_model.specs.Parts.{meant}
 use Rattle.value_model.specs.Values as m
 use Rattle.value_model.specs.Values.{Bytes}
 use Rattle.value_model.specs.declared.value.Value.{Value}

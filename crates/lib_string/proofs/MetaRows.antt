@@ -1,6 +1,6 @@
 -- Metatables and what they say, as they are kept and as they are meant.
-use Rattle.std.proofs.Common.{◌≡◌, ℕ, ◌<◌, Bool, true, false, not, cond, inr, List, [], ◌∷◌, map, length, get_or, slice_get, codes, Option, Some, None, Result, Ok, Err, refl, sym, ◌∙◌, ap, subst}
-use Rattle.std.proofs.lemmas.Option.{get_or_from_slice_get, slice_get_within}
+use Rattle.std.proofs.Common.{◌≡◌, ◌<◌, inr, [], length, slice_get, Option, Some, None, refl, sym, ◌∙◌, ap, subst}
+use Rattle.std.proofs.lemmas.Option.{get_or_from_slice_get}
 use Rattle.std.specs.Prelude.{option_map}
 use Rattle.value_model.specs.Owners.{wide}
 use Rattle.byte_text.specs.declared.fixed.StrId.{StrId}

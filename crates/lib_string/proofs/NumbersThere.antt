@@ -1,9 +1,9 @@
 -- An argument that was found is there.
-use Rattle.std.proofs.Common.{◌≡◌, ℕ, ◌<◌, List, [], length, map, Option, Some, None, Result, Ok, Err, slice_get, refl, subst, ap, sym, ◌∙◌, ℤ}
+use Rattle.std.proofs.Common.{◌≡◌, ℕ, ◌<◌, List, [], length, map, Option, Some, None, Result, Ok, Err, slice_get, refl, subst, ℤ}
 use Rattle.std.proofs.lemmas.List.{length-map}
 use Rattle.std.proofs.lemmas.Option.{slice_get_within}
 use Rattle.std.specs.Prelude.{OnOk}
-use Rattle.value_model.specs.Answers.{LibAnswer, PrintsLine, ErrsWith}
+use Rattle.value_model.specs.Answers.{LibAnswer, PrintsLine}
 use Rattle.value_model.specs.Arguments as row
 use Rattle.value_model.specs.Parts.{meant}
 use Rattle.value_model.specs.Values as m

@@ -1,12 +1,10 @@
 -- The numbers of pieces.
-use Rattle.std.proofs.Common.{◌≡◌, ℕ, ◌+◌, ◌<◌, List, [], ◌∷◌, ◌++◌, map, take, length, get_or, Some, slice_get, refl, sym, ◌∙◌, ap, subst}
+use Rattle.std.proofs.Common.{◌≡◌, ◌<◌, List, [], ◌∷◌, ◌++◌, map, length, Some, slice_get, refl, ◌∙◌, ap}
 use Rattle.indexmap.proofs.SetLemmas.{AllZip-push}
-use Rattle.std.proofs.lemmas.List.{map-append}
 use Rattle.std.proofs.lemmas.Option.{get_or_from_slice_get, slice_get_within}
-use Rattle.std.specs.List.{AllByRecursion, AllZip}
+use Rattle.std.specs.List.{AllByRecursion}
 use Rattle.byte_text.specs.declared.fixed.StrId.{StrId}
-use Rattle.value_model.specs.Parts.{bytes_at}
-use Rattle.value_model.specs.Values.{Bytes, Value, Text}
+use Rattle.value_model.specs.Values.{Bytes, Text}
 use Rattle.luau_tables.specs.Worlds.{Extends}
 use Rattle.luau_tables.proofs.MoreTexts.{text_on}
 use Rattle.lib_string.specs.Pieces.{AreTextsOf, texts_at}

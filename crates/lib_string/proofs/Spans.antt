@@ -1,5 +1,5 @@
 -- No bytes stand between two positions where the first is after the last.
-use Rattle.std.proofs.Common.{◌≡◌, ℕ, zero, suc, ◌≤◌, ◌-ℤ◌, ◌+ℤ◌, ◌<ℤ◌, ◌≤ℤ◌, ℤ, pos, negsuc, List, [], drop, take, length, arith, refl, ap, ◌∙◌}
+use Rattle.std.proofs.Common.{◌≡◌, zero, suc, ◌-ℤ◌, ◌+ℤ◌, ◌<ℤ◌, ◌≤ℤ◌, ℤ, pos, negsuc, [], drop, take, length, arith, refl, ap}
 use Rattle.std.proofs.lemmas.Int.{ints}
 use Rattle.value_model.specs.StringRows.{natural, first_position, last_position, bytes_between}
 use Rattle.value_model.specs.Values.{Bytes}

@@ -3,7 +3,6 @@ use Rattle.std.specs.Prelude.{◌≡◌, ℕ, List, [], ◌∷◌, ◌++◌, map
 use Rattle.value_model.specs.Answers as model
 use Rattle.value_model.specs.FormatRows as row
 use Rattle.value_model.specs.Parts.{meant}
-use Rattle.value_model.specs.Values as m
 use Rattle.value_model.specs.Values.{Bytes}
 use Rattle.value_model.specs.Waits as wait
 use Rattle.value_model.specs.declared.builtin.Builtin.TheVariants.{StringFormat}

@@ -1,5 +1,5 @@
 -- The pieces of a text, by the numbers of texts.
-use Rattle.std.specs.Prelude.{◌≡◌, ℕ, List, map, Some, slice_get}
+use Rattle.std.specs.Prelude.{◌≡◌, List, map, Some, slice_get}
 use Rattle.std.specs.List.{AllZip}
 use Rattle.byte_text.specs.declared.fixed.StrId.{StrId}
 use Rattle.value_model.specs.Parts.{bytes_at}

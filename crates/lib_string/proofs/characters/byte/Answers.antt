@@ -4,7 +4,6 @@ use Rattle.value_model.specs.Arguments as arg
 use Rattle.value_model.specs.Parts.{meant}
 use Rattle.value_model.specs.Store.{Store}
 use Rattle.value_model.specs.StringRows.{byte_values, bytes_between}
-use Rattle.value_model.specs.Values as m
 use Rattle.value_model.specs.Values.{Bytes}
 use Rattle.value_model.specs.declared.builtin.Builtin.TheVariants.{StringByte}
 use Rattle.luau_tables.specs.Worlds.{store_in}

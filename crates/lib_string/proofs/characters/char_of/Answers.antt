@@ -7,7 +7,7 @@ use Rattle.value_model.specs.Values.{Bytes}
 use Rattle.luau_tables.specs.Worlds.{store_in}
 use Rattle.lib_arguments.specs.Rows.{Runs}
 use Rattle.lib_arguments.proofs.RowsRun.{ends_runs}
-use Rattle.lib_string.specs.Codes.{bytes_then, char_numbers}
+use Rattle.lib_string.specs.Codes.{bytes_then}
 use Rattle.lib_string.proofs.CodeRows.{char_row, char_bytes}
 use Rattle.lib_string.proofs.characters.char_of.Goals as goal
 

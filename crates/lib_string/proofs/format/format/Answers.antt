@@ -1,4 +1,4 @@
-use Rattle.std.proofs.Common.{[], map, subst, sym, ap, ◌∙◌}
+use Rattle.std.proofs.Common.{[], map, subst, sym, ◌∙◌}
 use Rattle.std.proofs.lemmas.Option.{get_or_from_slice_get}
 use Rattle.value_model.specs.FormatRows as row
 use Rattle.value_model.specs.Parts.{meant}
@@ -7,7 +7,7 @@ use Rattle.value_model.specs.declared.builtin.Builtin.TheVariants.{StringFormat}
 use Rattle.luau_tables.specs.Worlds.{store_in}
 use Rattle.lib_string.specs.Answering.{AnswersOrEnds}
 use Rattle.lib_string.proofs.FormatAnswers.{format_rest, text_answers}
-use Rattle.lib_string.proofs.WholeRows.{text_ends, text_of}
+use Rattle.lib_string.proofs.WholeRows.{text_ends}
 use Rattle.lib_string.proofs.format.format.Goals as goal
 
 pub returns-in-Err-clause-answers : goal.returns-in-Err-clause-answers

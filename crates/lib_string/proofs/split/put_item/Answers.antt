@@ -1,6 +1,6 @@
 use Rattle.std.proofs.Common.{subst, sym, ap, ◌∙◌}
 use Rattle.value_arena.proofs.Laws.{table_now}
-use Rattle.value_arena.specs.Arenas.{ArenaView, table_at, with_table}
+use Rattle.value_arena.specs.Arenas.{ArenaView, table_at}
 use Rattle.luau_tables.proofs.WorldsKept.{put_keeps, put_store}
 use Rattle.luau_tables.specs.Rules as rule
 use Rattle.luau_tables.specs.Worlds.{Keeps, store_in}

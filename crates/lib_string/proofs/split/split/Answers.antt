@@ -1,4 +1,4 @@
-use Rattle.std.proofs.Common.{◌≡◌, [], ◌∷◌, map, pos, subst, sym, ap, ◌∙◌, Err}
+use Rattle.std.proofs.Common.{[], ◌∷◌, map, pos, sym, ap, ◌∙◌, Err}
 use Rattle.luau_tables.proofs.MoreTexts.{bytes_more}
 use Rattle.luau_tables.specs.Worlds.{store_in}
 use Rattle.lib_arguments.proofs.RowsRun.{gives_runs}

@@ -1,4 +1,4 @@
-use Rattle.std.proofs.Common.{◌≡◌, ◌+◌, [], ◌∷◌, get_or, refl, sym, subst, ap, ◌∙◌, false, pos, take, arith}
+use Rattle.std.proofs.Common.{◌≡◌, ◌+◌, get_or, refl, sym, subst, ap, ◌∙◌, pos, take}
 use Rattle.std.proofs.lemmas.List.{get_or_default, take_all}
 use Rattle.value_arena.specs.Arenas.{ArenaView, HasTable, next_table, new_table, table_at}
 use Rattle.value_arena.proofs.Growing.{new_table_at}

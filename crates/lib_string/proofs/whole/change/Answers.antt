@@ -1,4 +1,4 @@
-use Rattle.std.proofs.Common.{[], subst, sym, ap}
+use Rattle.std.proofs.Common.{[], subst, sym}
 use Rattle.std.proofs.lemmas.Option.{get_or_from_slice_get}
 use Rattle.std.specs.Prelude.{◌≡◌, IfOk}
 use Rattle.value_model.specs.CoreRows.{gives}
