@@ -603,11 +603,7 @@ const ROWS: [(Builtin, Given, Given, Given, &str); 102] = [
 ];
 
 // The value of an argument, which is made where it is not there.
-fn value_of(
-    rt: &impl AllocGlobal,
-    given: &Given,
-    world: &mut LibWorld,
-) -> Result<Option<Value>, Fail> {
+fn value_of(given: &Given, world: &mut LibWorld) -> Result<Option<Value>, Fail> {
     Ok(match given {
         Nothing => None,
         Nil => Some(Value::Nil),
@@ -642,7 +638,7 @@ fn text_of(
     let _meta = world.arena.new_table(world.owner)?;
     let mut args = Vec::new(rt.alloc());
     for given in &[row.1, row.2, row.3] {
-        if let Some(value) = value_of(rt, given, &mut world)? {
+        if let Some(value) = value_of(given, &mut world)? {
             args.push(value)?;
         }
     }
@@ -651,6 +647,111 @@ fn text_of(
     let mut out = Vec::new(rt.alloc());
     answer_into(&answer, results.as_slice(), &world, &mut out)?;
     Ok(out)
+}
+
+// What is made of an answer, in a world where the format `<%-4s|%s>` has asked a table for its text.
+fn gone_on(rt: &impl AllocGlobal, given: &Given) -> Result<Vec<u8>, Fail> {
+    let mut world = world(rt)?;
+    let mut args = Vec::new(rt.alloc());
+    for given in &[Text("<%-4s|%s>"), Named, Number(5)] {
+        if let Some(value) = value_of(given, &mut world)? {
+            args.push(value)?;
+        }
+    }
+    let mut results = Vec::new(rt.alloc());
+    let asked = call(
+        rt.alloc(),
+        Builtin::StringFormat,
+        args.as_slice(),
+        &mut world,
+        &mut results,
+    )?;
+    let mut out = Vec::new(rt.alloc());
+    if let LibAnswer::CallBack {
+        callee: _,
+        args: _,
+        then,
+    } = asked
+    {
+        if let Some(value) = value_of(given, &mut world)? {
+            let answer = go_on(rt.alloc(), then, value, &mut world, &mut results)?;
+            answer_into(&answer, results.as_slice(), &world, &mut out)?;
+        }
+    }
+    Ok(out)
+}
+
+const ANSWERS: [(Given, &str); 3] = [
+    (Text("ab"), " [<ab  |5>]"),
+    (Text("abcde"), " [<abcde|5>]"),
+    (Number(5), "'__tostring' must return a string"),
+];
+
+#[test]
+fn answers(rt: HostRuntime) -> Result<(), Fail> {
+    for (given, text) in &ANSWERS {
+        let out = gone_on(&rt, given)?;
+        assert_eq!(rt; out.as_slice(), text.as_bytes());
+    }
+    Ok(())
+}
+
+// A text of so many bytes, made by `rep`.
+fn long(rt: &impl AllocGlobal, count: i64, world: &mut LibWorld) -> Result<Value, Fail> {
+    let mut results = Vec::new(rt.alloc());
+    let args = [
+        Value::Str(world.names.intern(b"a")?),
+        Whole::new(count).map_or(Value::Nil, Value::Num),
+    ];
+    let _ = call(rt.alloc(), Builtin::StringRep, &args, world, &mut results)?;
+    Ok(results.pop().unwrap_or(Value::Nil))
+}
+
+// What a function gives for a first argument of so many bytes, and how many values that are.
+fn text_of_long(
+    rt: &impl AllocGlobal,
+    row: &(Builtin, Given, Given, i64, &str, usize),
+) -> Result<(Vec<u8>, usize), Fail> {
+    let mut world = world(rt)?;
+    let mut args = Vec::new(rt.alloc());
+    if let Text(text) = row.1 {
+        args.push(Value::Str(world.names.intern(text.as_bytes())?))?;
+    }
+    args.push(long(rt, row.3, &mut world)?)?;
+    if let Number(n) = row.2 {
+        args.push(Whole::new(1).map_or(Value::Nil, Value::Num))?;
+        args.push(Whole::new(n).map_or(Value::Nil, Value::Num))?;
+    }
+    let mut results = Vec::new(rt.alloc());
+    let answer = call(rt.alloc(), row.0, args.as_slice(), &mut world, &mut results)?;
+    let mut out = Vec::new(rt.alloc());
+    if let LibAnswer::RunError(error) = answer {
+        error.text_into(&world.names, &mut out)?;
+    }
+    Ok((out, results.len()))
+}
+
+const LIMITS: [(Builtin, Given, Given, i64, &str, usize); 3] = [
+    (Builtin::StringByte, Nothing, Number(-1), 8000, "", 8000),
+    (
+        Builtin::StringByte,
+        Nothing,
+        Number(-1),
+        8001,
+        "too many values",
+        0,
+    ),
+    (Builtin::StringLen, Nothing, Nothing, 16777216, "", 1),
+];
+
+#[test]
+fn limits(rt: HostRuntime) -> Result<(), Fail> {
+    for row in &LIMITS {
+        let (text, count) = text_of_long(&rt, row)?;
+        assert_eq!(rt; text.as_slice(), row.4.as_bytes());
+        assert_eq!(rt; count, row.5);
+    }
+    Ok(())
 }
 
 #[test]
