@@ -1,3 +1,4 @@
+pub mod ArenaKept
 pub mod Found
 pub mod Looks
 pub mod NamesKept

@@ -7,11 +7,14 @@ use Rattle.luau_tables.specs.Answers.{Answered, meant_answer}
 use Rattle.luau_tables.specs.Own.{HasText}
 use Rattle.luau_tables.specs.Worlds.{store_in, MayUseIn}
 use Rattle.luau_tables.specs.declared.answer.LibAnswer.{LibAnswer}
+use Rattle.luau_tables.specs.declared.answer.LibAnswer.TheVariants as answer
 use Rattle.luau_tables.specs.declared.globals.LibWorld.{LibWorld}
+use Rattle.resource.specs.declared.memory.OutOfMemory.{OutOfMemory as NoMemory}
 use Rattle.value_model.specs.Answers as model
 use Rattle.value_model.specs.Parts.{meant}
 use Rattle.value_model.specs.Values.{Bytes}
 use Rattle.value_model.specs.Waits as wait
+use Rattle.value_model.specs.declared.error.RunErr.{RunErr}
 use Rattle.value_model.specs.declared.value.Value.{Value}
 use Rattle.value_model.specs.declared.value.Value.TheVariants.{Nil}
 use Rattle.lib_arguments.specs.Checks.{Checks, Fails}
@@ -49,6 +52,9 @@ nil_used w = (tt, tt)
 
 pub used_or_nil : (w : LibWorld) (args : List Value) (i : ℕ) → AllByRecursion (MayUseIn w) args → MayUseIn w (slice_index_or args i Nil)
 used_or_nil w args i h = each_or (MayUseIn w) args i Nil h (nil_used w)
+
+pub used_given : (w : LibWorld) (args : List Value) (i : ℕ) (v : Value) → AllByRecursion (MayUseIn w) args → v ≡ slice_index_or args i Nil → MayUseIn w v
+used_given w args i v h e = subst (MayUseIn w) (sym e) (used_or_nil w args i h)
 
 -- ---- values
 
@@ -103,9 +109,26 @@ runs_answered origin before after rs rs' (Err (RunError e)) row h =
 runs_answered origin before after rs rs' (Err (Stop s)) row h =
     record { given = []; appended = h.results ∙ sym (append-nil rs); meant = sym h.fails; stays = (refl, h.store); usable = tt; values = tt }
 
+-- the same of the answer itself
+pub answered_by : (origin : wait.Origin) (before after : LibWorld) (rs rs' : List Value) (result : Result (Unit {0}) Ending) (row : model.LibAnswer) (answers : Result LibAnswer NoMemory) → answers ≡ ending_of result → Runs before after rs rs' result row → IfOk answers (λ (a : LibAnswer). Answered before after rs rs' a origin row)
+answered_by origin before after rs rs' result row answers e h = subst (λ answers. IfOk answers (λ (a : LibAnswer). Answered before after rs rs' a origin row)) (sym e) (runs_answered origin before after rs rs' result row h)
+
+-- a value is raised
+pub raise_answers : (w : LibWorld) (rs : List Value) (v : Value) (origin : wait.Origin) (row : model.LibAnswer) → MayUseIn w v → row ≡ model.RaisesValue (meant w.names v) origin → Answered w w rs rs (answer.Raise v) origin row
+unfolding meant_answer
+raise_answers w rs v origin row used same = record { given = []; appended = sym (append-nil rs); meant = sym same; stays = (refl, refl); usable = used; values = tt }
+
+-- a run error is answered
+pub error_answers : (w : LibWorld) (rs : List Value) (e : RunErr) (origin : wait.Origin) (row : model.LibAnswer) → Fails w.names row (RunError e) → Answered w w rs rs (answer.RunError e) origin row
+unfolding meant_answer
+error_answers w rs e origin row fails = record { given = []; appended = sym (append-nil rs); meant = sym fails.0; stays = (refl, refl); usable = fails.1; values = tt }
+
 -- and where there is no memory nothing is appended
 pub runs_unanswered : (before after : LibWorld) (rs rs' : List Value) (result : Result (Unit {0}) Ending) (row : model.LibAnswer) → Runs before after rs rs' result row → OnErr (ending_of result) (rs' ≡ rs)
 runs_unanswered before after rs rs' (Ok done) row h = tt
 runs_unanswered before after rs rs' (Err OutOfMemory) row h = h.results
 runs_unanswered before after rs rs' (Err (RunError e)) row h = tt
 runs_unanswered before after rs rs' (Err (Stop s)) row h = tt
+
+pub unanswered_by : (before after : LibWorld) (rs rs' : List Value) (result : Result (Unit {0}) Ending) (row : model.LibAnswer) (answers : Result LibAnswer NoMemory) → answers ≡ ending_of result → Runs before after rs rs' result row → OnErr answers (rs' ≡ rs)
+unanswered_by before after rs rs' result row answers e h = subst (λ answers. OnErr answers (rs' ≡ rs)) (sym e) (runs_unanswered before after rs rs' result row h)

@@ -35,6 +35,16 @@ pub fn wanted(f: Builtin, i: usize, w: Wanted, args: &[Value]) -> Result<Value, 
     }
 }
 
+/// An argument, where it is there.
+pub fn argument_at(args: &[Value], i: usize) -> Option<Value>
+    ensures { result ≡ slice_get args.now i }
+{
+    match args.get(i) {
+        Some(v) => Some(*v),
+        None => None,
+    }
+}
+
 /// An argument, or nil where it is absent.
 pub fn argument_or_nil(args: &[Value], i: usize) -> Value
     ensures value { (texts : List Bytes) → meant texts result ≡ row.argument_or_nil (map (meant texts) args.now) i }

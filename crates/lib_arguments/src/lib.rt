@@ -8,7 +8,7 @@ mod number;
 mod text;
 
 pub use argument::{
-    any_at, argument_or_nil, invalid, out_of_range, table_at, table_from, wanted,
+    any_at, argument_at, argument_or_nil, invalid, out_of_range, table_at, table_from, wanted,
 };
 pub use ending::{Ending, answer};
 pub use giving::{give, give_all, give_count, give_text};

@@ -1,1 +1,10 @@
+pub mod Builtins
+pub mod GoingOn
+pub mod MetaRows
+pub mod NumberRows
+pub mod RaiseRows
 pub mod RawRows
+pub mod SelectRows
+pub mod SetRows
+pub mod TextRows
+pub mod WalkRows

@@ -1,3 +1,4 @@
+pub mod FirstPart
 pub mod MoreTexts
 pub mod NewTables
 pub mod OwnKept

@@ -43,7 +43,8 @@ extends_on a b c e f =
     }
 
 -- lists are changed alike by what does the same to each element
-map_same : {X Y : Type 0} (f g : X → Y) (d : X) (P : X → Type 0) → ((x : X) → P x → f x ≡ g x) → (xs : List X) → ((i : ℕ) → P (get_or xs i d)) → map f xs ≡ map g xs
+map_same : {X Y : Type 0} (f g : X → Y) (d : X) (P : X → Type 0) → ((x : X) → P x → f x ≡ g x) → (xs : List X) → ((i : ℕ) → P (get_or xs i d)) →
+    map f xs ≡ map g xs
 map_same f g d P same [] h = refl
 map_same f g d P same (x ∷ xs) h = ap (λ y. y ∷ map f xs) (same x (h 0)) ∙ ap (λ ys. g x ∷ ys) (map_same f g d P same xs (λ i. h (suc i)))
 
@@ -135,7 +136,8 @@ module _ (texts after : List Bytes) (extends : Extends texts after) where
   texts_on : (a : ArenaView) → HasTexts texts a → HasTexts after a
   texts_on a h =
       record {
-        tables = λ t. all_on (λ e. HasText texts e.0 × HasText texts e.1) (λ e. HasText after e.0 × HasText after e.1) (λ e k. (text_more e.0 k.0, text_more e.1 k.1)) (table_at a t).entries (h.tables t);
+        tables = λ t. all_on (λ e. HasText texts e.0 × HasText texts e.1) (λ e. HasText after e.0 × HasText after e.1)
+            (λ e k. (text_more e.0 k.0, text_more e.1 k.1)) (table_at a t).entries (h.tables t);
         cells = λ c. text_more _ (h.cells c);
         bodies = λ t. text_more (thread_at a t).body (h.bodies t);
         failures = λ t. some_on (λ v. HasText texts v) (λ v. HasText after v) text_more (thread_at a t).failure (h.failures t);
@@ -182,9 +184,11 @@ module _ (texts after : List Bytes) (extends : Extends texts after) where
   pub globals_more : (g : Globals) (a : ArenaView) → HasGlobals texts g a → globals_of after g ≡ globals_of texts g
   globals_more g a h =
       ap (λ ps. record (globals_of after g) { paths = ps })
-      (map_all (λ (p : TableId × StrId). (table_ref p.0, bytes_at after p.1.0)) (λ (p : TableId × StrId). (table_ref p.0, bytes_at texts p.1.0)) (λ p. p.1.0 < length texts) (λ p k. ap (λ b. (table_ref p.0, b)) (bytes_more p.1.0 k)) g.paths.items h.paths)
+      (map_all (λ (p : TableId × StrId). (table_ref p.0, bytes_at after p.1.0)) (λ (p : TableId × StrId). (table_ref p.0, bytes_at texts p.1.0))
+      (λ p. p.1.0 < length texts) (λ p k. ap (λ b. (table_ref p.0, b)) (bytes_more p.1.0 k)) g.paths.items h.paths)
       ∙ ap (λ hs. record (globals_of texts g) { hosts = hs })
-      (map_all (λ (x : StrId). bytes_at after x.0) (λ (x : StrId). bytes_at texts x.0) (λ x. x.0 < length texts) (λ x k. bytes_more x.0 k) g.hosts.items h.hosts)
+      (map_all (λ (x : StrId). bytes_at after x.0) (λ (x : StrId). bytes_at texts x.0) (λ x. x.0 < length texts)
+      (λ x k. bytes_more x.0 k) g.hosts.items h.hosts)
 
   pub plain_text_more : (g : Globals) (a : ArenaView) (v : Value) → HasGlobals texts g a → HasText texts v → plain_text after g v ≡ plain_text texts g v
   unfolding plain_text
@@ -209,19 +213,26 @@ module _ (texts after : List Bytes) (extends : Extends texts after) where
   -- each table of an owner, by its place
   tables_of : (a : ArenaView) (w : Owner) → HasTexts texts a → (i : ℕ) → HasTextsInTable texts (get_or (objects_of a w).tables i no_table)
   unfolding table_at
-  tables_of a w h i = subst (λ u. HasTextsInTable texts (get_or (objects_of a u).tables i no_table)) (wide_narrow w) (h.tables (record { owner = narrow w; place = i }))
+  tables_of a w h i = subst (λ u. HasTextsInTable texts (get_or (objects_of a u).tables i no_table)) (wide_narrow w)
+      (h.tables (record { owner = narrow w; place = i }))
 
-  threads_of : (a : ArenaView) (w : Owner) → HasTexts texts a → (i : ℕ) → HasText texts (get_or (objects_of a w).threads i no_coroutine).body × IfSome (get_or (objects_of a w).threads i no_coroutine).failure (λ v. HasText texts v)
+  threads_of : (a : ArenaView) (w : Owner) → HasTexts texts a → (i : ℕ) →
+      HasText texts (get_or (objects_of a w).threads i no_coroutine).body × IfSome (get_or (objects_of a w).threads i no_coroutine).failure
+      (λ v. HasText texts v)
   unfolding thread_at
   threads_of a w h i =
       let t : ThreadId = record { owner = narrow w; place = i } in
-      subst (λ u. HasText texts (get_or (objects_of a u).threads i no_coroutine).body × IfSome (get_or (objects_of a u).threads i no_coroutine).failure (λ v. HasText texts v)) (wide_narrow w) (h.bodies t, h.failures t)
+      subst (λ u. HasText texts (get_or (objects_of a u).threads i no_coroutine).body × IfSome (get_or
+      (objects_of a u).threads i no_coroutine).failure (λ v. HasText texts v)) (wide_narrow w) (h.bodies t, h.failures t)
 
   pub store_more : (g : Globals) (a : ArenaView) (w : Owner) → IsOwn texts g a w → store_of after g a w ≡ store_of texts g a w
   unfolding store_of
   store_more g a w own =
-      let tables = λ (u : Owner). map_same (table_of after) (table_of texts) no_table (λ t. HasTextsInTable texts t) table_more (objects_of a u).tables (tables_of a u own.numbered) in
-      let threads = map_same (coroutine_of after) (coroutine_of texts) no_coroutine (λ t. HasText texts t.body × IfSome t.failure (λ v. HasText texts v)) coroutine_more (objects_of a w).threads (threads_of a w own.numbered) in
+      let tables = λ (u : Owner). map_same (table_of after) (table_of texts) no_table (λ t. HasTextsInTable texts t) table_more
+      (objects_of a u).tables (tables_of a u own.numbered) in
+      let threads = map_same (coroutine_of after) (coroutine_of texts) no_coroutine
+      (λ t. HasText texts t.body × IfSome t.failure (λ v. HasText texts v)) coroutine_more (objects_of a w).threads
+      (threads_of a w own.numbered) in
       ap (λ x. record (store_of after g a w) { globals = x }) (globals_more g a own.globals)
       ∙ ap (λ x. record (store_of after g a w) { globals = globals_of texts g; shared = x }) (tables owner.Frozen)
       ∙ ap (λ x. record (store_of texts g a w) { tables = x; coroutines = map (coroutine_of after) (objects_of a w).threads }) (tables w)

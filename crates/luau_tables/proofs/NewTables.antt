@@ -29,7 +29,8 @@ use Rattle.luau_tables.proofs.OwnKept.{own_on, script_is}
 pub read_as_before : (a : ArenaView) (w : Owner) (u : TableId) → table_at (new_table a w) u ≡ table_at a u
 unfolding new_table table_at
 read_as_before a w u =
-    part_kept (λ o. get_or o.tables u.place no_table) (λ o. record o { tables = o.tables ++ no_table ∷ [] }) (λ o. pushed o.tables u.place) a w (wide u.owner)
+    part_kept (λ o. get_or o.tables u.place no_table) (λ o. record o { tables = o.tables ++ no_table ∷ [] }) (λ o. pushed o.tables u.place) a w
+    (wide u.owner)
   where
     pushed : (ts : List TableView) (i : ℕ) → get_or (ts ++ no_table ∷ []) i no_table ≡ get_or ts i no_table
     pushed [] zero = refl
@@ -65,19 +66,22 @@ new_table_changes a w =
     }
 
 -- the owner's objects, where the new table is one
-objects_with_new : (a : ArenaView) (w : Owner) → HasTable (new_table a w) (next_table a w) → objects_of (new_table a w) w ≡ record (objects_of a w) { tables = (objects_of a w).tables ++ no_table ∷ [] }
+objects_with_new : (a : ArenaView) (w : Owner) → HasTable (new_table a w) (next_table a w) →
+    objects_of (new_table a w) w ≡ record (objects_of a w) { tables = (objects_of a w).tables ++ no_table ∷ [] }
 unfolding HasTable new_table next_table
 objects_with_new a w h =
     let o = objects_of a w in
     let o' : ObjectsView = record o { tables = o.tables ++ no_table ∷ [] } in
-    let there = is_in (λ o. length o.tables) refl (new_table a w) w (length o.tables) (subst (λ u. length o.tables < length (objects_of (new_table a w) u).tables) (wide_narrow w) h) in
+    let there = is_in (λ o. length o.tables) refl (new_table a w) w (length o.tables)
+    (subst (λ u. length o.tables < length (objects_of (new_table a w) u).tables) (wide_narrow w) h) in
     objects_now a w o' (subst (λ n. slot w < n) (length-set a.owners (slot w) o') there)
 
 next_owner : (a : ArenaView) (w : Owner) → wide (next_table a w).owner ≡ w
 unfolding next_table
 next_owner a w = wide_narrow w
 
-next_ref : (texts : List Bytes) (g : Globals) (a : ArenaView) (w : Owner) → IsScript w → table_ref (next_table a w) ≡ store.next_table (store_of texts g a w)
+next_ref : (texts : List Bytes) (g : Globals) (a : ArenaView) (w : Owner) → IsScript w →
+    table_ref (next_table a w) ≡ store.next_table (store_of texts g a w)
 unfolding next_table store_of
 next_ref texts g a owner.Frozen h = elim h [ ]
 next_ref texts g a (owner.Script n) h = ap m.Own (sym (length-map (objects_of a (owner.Script n)).tables (table_of texts)))
@@ -97,14 +101,16 @@ module _ (texts : List Bytes) (g : Globals) (a : ArenaView) (w : Owner) (own : I
   pub new_table_ref : table_ref (next_table a w) ≡ store.next_table (store_of texts g a w)
   new_table_ref = next_ref texts g a w own.script
 
-  pub new_table_part : HasTable (new_table a w) (next_table a w) → store_of texts g (new_table a w) w ≡ store.with_new_table (store_of texts g a w) store.empty_table
+  pub new_table_part : HasTable (new_table a w) (next_table a w) →
+      store_of texts g (new_table a w) w ≡ store.with_new_table (store_of texts g a w) store.empty_table
   unfolding store_of
   new_table_part there =
       let shared = growing.others_beside_new_table a w owner.Frozen (script_is w own.script) in
       let o = objects_of a w in
       ap (λ (x : ObjectsView). part_with x (objects_of (new_table a w) w)) shared
       ∙ ap (λ (x : ObjectsView). part_with (objects_of a owner.Frozen) x) (objects_with_new a w there)
-      ∙ ap (λ r. record (part_with (objects_of a owner.Frozen) (record o { tables = o.tables ++ no_table ∷ [] })) { running = option_map place_of_thread r }) (running_beside_new a w)
+      ∙ ap (λ r. record (part_with (objects_of a owner.Frozen)
+      (record o { tables = o.tables ++ no_table ∷ [] })) { running = option_map place_of_thread r }) (running_beside_new a w)
       ∙ ap (λ l. record (store_of texts g a w) { tables = l }) (map-append (table_of texts) o.tables (no_table ∷ []))
     where
       part_with : ObjectsView → ObjectsView → store.Store
@@ -119,7 +125,8 @@ module _ (texts : List Bytes) (g : Globals) (a : ArenaView) (w : Owner) (own : I
           }
 
 -- a new table that is changed is a new table as it is then
-pub new_table_written : (s : store.Store) (x y : store.TableOf) → store.with_table (store.with_new_table s x) (store.next_table s) y ≡ store.with_new_table s y
+pub new_table_written : (s : store.Store) (x y : store.TableOf) →
+    store.with_table (store.with_new_table s x) (store.next_table s) y ≡ store.with_new_table s y
 unfolding store.with_table
 new_table_written s x y = ap (λ l. record s { tables = l }) (last s.tables)
   where

@@ -77,14 +77,16 @@ globals_on texts g a b more h =
       hosts = h.hosts;
     }
 
-running_on : (a b : ArenaView) (w : Owner) → Grows a b → (r s : Option ThreadId) → s ≡ r → IfSome r (λ t. MayHold a w (value.Thread t)) → IfSome s (λ t. MayHold b w (value.Thread t))
+running_on : (a b : ArenaView) (w : Owner) → Grows a b → (r s : Option ThreadId) → s ≡ r → IfSome r (λ t. MayHold a w (value.Thread t)) →
+    IfSome s (λ t. MayHold b w (value.Thread t))
 running_on a b w more r s e h = subst (λ r. IfSome r (λ t. MayHold b w (value.Thread t))) (sym e) (by r h)
   where
     by : (r : Option ThreadId) → IfSome r (λ t. MayHold a w (value.Thread t)) → IfSome r (λ t. MayHold b w (value.Thread t))
     by None h = h
     by (Some t) h = hold_on a b w (value.Thread t) more h
 
-pub own_on : (texts : List Bytes) (g : Globals) (a b : ArenaView) (w : Owner) → IsOwn texts g a w → Grows a b → IsOwned b → HasTexts texts b → objects_of b owner.Frozen ≡ objects_of a owner.Frozen → b.running ≡ a.running → IsOwn texts g b w
+pub own_on : (texts : List Bytes) (g : Globals) (a b : ArenaView) (w : Owner) → IsOwn texts g a w → Grows a b → IsOwned b → HasTexts texts b →
+    objects_of b owner.Frozen ≡ objects_of a owner.Frozen → b.running ≡ a.running → IsOwn texts g b w
 own_on texts g a b w own more owned numbered shared running =
     record {
       script = own.script;
@@ -125,7 +127,8 @@ table_cases t u = by (owner_cases t.owner u.owner) (cases_eq u.place t.place)
     by (inl o) (inr p) = inr (λ e. p (ap (λ (t : TableId). t.place) e))
 
 -- what holds of the new table and of the old ones holds of each afterwards
-each_table : (P : TableId → TableView → Type 0) (a : ArenaView) (t : TableId) (v : TableView) → HasTable a t → P t v → ((u : TableId) → P u (table_at a u)) → (u : TableId) → P u (table_at (with_table a t v) u)
+each_table : (P : TableId → TableView → Type 0) (a : ArenaView) (t : TableId) (v : TableView) → HasTable a t → P t v →
+    ((u : TableId) → P u (table_at a u)) → (u : TableId) → P u (table_at (with_table a t v) u)
 each_table P a t v there new old u =
     elim (table_cases t u) [
       | inl e ↦ subst (λ u. P u (table_at (with_table a t v) u)) (sym e) (subst (λ x. P t x) (sym (table_now a t v there)) new)
@@ -147,7 +150,8 @@ module _ (texts : List Bytes) (a : ArenaView) (t : TableId) (v : TableView) wher
       }
 
 -- of all objects only the tables of the owner change
-pub changes_table : (a : ArenaView) (w : Owner) (t : TableId) (v : TableView) → wide t.owner ≡ w → HasTable a t → v.is_marked ≡ (table_at a t).is_marked → ChangesTables w a (with_table a t v)
+pub changes_table : (a : ArenaView) (w : Owner) (t : TableId) (v : TableView) → wide t.owner ≡ w → HasTable a t →
+    v.is_marked ≡ (table_at a t).is_marked → ChangesTables w a (with_table a t v)
 unfolding with_table
 changes_table a w t v owned there mark =
     record {
@@ -185,40 +189,51 @@ module _ (texts : List Bytes) (g : Globals) (a : ArenaView) (w : Owner) (own : I
       (others_beside_table a t v owner.Frozen (λ e. script_is w own.script (e ∙ owned)))
       (running_beside a t v)
 
-  pub changed_part : (t : TableId) (v : TableView) → MayUse texts a w (value.Table t) → store_of texts g (with_table a t v) w ≡ store.with_table (store_of texts g a w) (table_ref t) (table_of texts v)
+  pub changed_part : (t : TableId) (v : TableView) → MayUse texts a w (value.Table t) →
+      store_of texts g (with_table a t v) w ≡ store.with_table (store_of texts g a w) (table_ref t) (table_of texts v)
   changed_part t v h = with_table_kept texts g a w t v own.script (reads.seen_table texts g a w own t h) h.0.1
 
   -- ---- a value is written
 
-  pub put_own : (t : TableId) (key v : Value) → MayUse texts a w (value.Table t) → (table_at a t).is_frozen ≡ false → MayUse texts a w key → MayUse texts a w v → IsOwn texts g (with_table a t (rule.put (table_at a t) key v)) w
+  pub put_own : (t : TableId) (key v : Value) → MayUse texts a w (value.Table t) → (table_at a t).is_frozen ≡ false → MayUse texts a w key →
+      MayUse texts a w v → IsOwn texts g (with_table a t (rule.put (table_at a t) key v)) w
   put_own t key v h thawed k l =
       changed_own t (rule.put (table_at a t) key v) h.0.1 (unfrozen_owned t h thawed)
       (put_holds (MayUse texts a w) (table_at a t) key v (reads.usable_table texts g a w own t (reads.seen_table texts g a w own t h)) k l)
 
-  pub put_changes : (t : TableId) (key v : Value) → MayUse texts a w (value.Table t) → (table_at a t).is_frozen ≡ false → ChangesTables w a (with_table a t (rule.put (table_at a t) key v))
+  pub put_changes : (t : TableId) (key v : Value) → MayUse texts a w (value.Table t) → (table_at a t).is_frozen ≡ false →
+      ChangesTables w a (with_table a t (rule.put (table_at a t) key v))
   unfolding rule.put
   put_changes t key v h thawed = changes_table a w t (rule.put (table_at a t) key v) (unfrozen_owned t h thawed) h.0.1 refl
 
-  pub put_part : (t : TableId) (key v : Value) → MayUse texts a w (value.Table t) → MayUse texts a w key → store_of texts g (with_table a t (rule.put (table_at a t) key v)) w ≡ store.with_table (store_of texts g a w) (table_ref t) (model.put (store.table_at (store_of texts g a w) (table_ref t)) (meant texts key) (meant texts v))
+  pub put_part : (t : TableId) (key v : Value) → MayUse texts a w (value.Table t) → MayUse texts a w key →
+      store_of texts g (with_table a t (rule.put (table_at a t) key v)) w ≡ store.with_table (store_of texts g a w) (table_ref t)
+      (model.put (store.table_at (store_of texts g a w) (table_ref t)) (meant texts key) (meant texts v))
   put_part t key v h k =
       changed_part t (rule.put (table_at a t) key v) h
       ∙ ap (λ x. store.with_table (store_of texts g a w) (table_ref t) x)
-      (sym (ap (λ x. model.put x (meant texts key) (meant texts v)) (reads.table_part texts g a w own t h) ∙ put_kept texts w own.interned.distinct (table_at a t) key v (reads.own_table texts g a w own t (reads.seen_table texts g a w own t h)) (reads.own_value texts g a w own key k)))
+      (sym (ap (λ x. model.put x (meant texts key) (meant texts v)) (reads.table_part texts g a w own t h) ∙ put_kept texts w own.interned.distinct
+      (table_at a t) key v (reads.own_table texts g a w own t (reads.seen_table texts g a w own t h)) (reads.own_value texts g a w own key k)))
 
   -- ---- a metatable is set
 
-  pub meta_own : (t : TableId) (m : Option TableId) → MayUse texts a w (value.Table t) → (table_at a t).is_frozen ≡ false → OfSome (λ m. MayUse texts a w (value.Table m)) m → IsOwn texts g (with_table a t (record (table_at a t) { meta = m })) w
+  pub meta_own : (t : TableId) (m : Option TableId) → MayUse texts a w (value.Table t) → (table_at a t).is_frozen ≡ false →
+      OfSome (λ m. MayUse texts a w (value.Table m)) m → IsOwn texts g (with_table a t (record (table_at a t) { meta = m })) w
   meta_own t m h thawed k =
       changed_own t (record (table_at a t) { meta = m }) h.0.1 (unfrozen_owned t h thawed)
       (record { entries = (reads.usable_table texts g a w own t (reads.seen_table texts g a w own t h)).entries; meta = k })
 
-  pub meta_changes : (t : TableId) (m : Option TableId) → MayUse texts a w (value.Table t) → (table_at a t).is_frozen ≡ false → ChangesTables w a (with_table a t (record (table_at a t) { meta = m }))
+  pub meta_changes : (t : TableId) (m : Option TableId) → MayUse texts a w (value.Table t) → (table_at a t).is_frozen ≡ false →
+      ChangesTables w a (with_table a t (record (table_at a t) { meta = m }))
   meta_changes t m h thawed = changes_table a w t (record (table_at a t) { meta = m }) (unfrozen_owned t h thawed) h.0.1 refl
 
-  pub meta_part_set : (t : TableId) (m : Option TableId) → MayUse texts a w (value.Table t) → store_of texts g (with_table a t (record (table_at a t) { meta = m })) w ≡ store.with_table (store_of texts g a w) (table_ref t) (record (store.table_at (store_of texts g a w) (table_ref t)) { meta = option_map table_ref m })
+  pub meta_part_set : (t : TableId) (m : Option TableId) → MayUse texts a w (value.Table t) →
+      store_of texts g (with_table a t (record (table_at a t) { meta = m })) w ≡ store.with_table (store_of texts g a w) (table_ref t)
+      (record (store.table_at (store_of texts g a w) (table_ref t)) { meta = option_map table_ref m })
   meta_part_set t m h =
       changed_part t (record (table_at a t) { meta = m }) h
-      ∙ ap (λ x. store.with_table (store_of texts g a w) (table_ref t) (record x { meta = option_map table_ref m })) (sym (reads.table_part texts g a w own t h))
+      ∙ ap (λ x. store.with_table (store_of texts g a w) (table_ref t) (record x { meta = option_map table_ref m }))
+      (sym (reads.table_part texts g a w own t h))
 
   -- ---- a table is frozen, which may be so already
 
@@ -244,7 +259,9 @@ module _ (texts : List Bytes) (g : Globals) (a : ArenaView) (w : Owner) (own : I
       by true e = subst (λ (x : ArenaView). ChangesTables w a x) (sym (frozen_stays t e)) (changes_nothing w a)
       by false e = changes_table a w t (frozen_table t) (unfrozen_owned t h e) h.0.1 refl
 
-  pub freeze_part : (t : TableId) → MayUse texts a w (value.Table t) → store_of texts g (with_table a t (record (table_at a t) { is_frozen = true })) w ≡ store.with_table (store_of texts g a w) (table_ref t) (record (store.table_at (store_of texts g a w) (table_ref t)) { frozen = true })
+  pub freeze_part : (t : TableId) → MayUse texts a w (value.Table t) →
+      store_of texts g (with_table a t (record (table_at a t) { is_frozen = true })) w ≡ store.with_table (store_of texts g a w) (table_ref t)
+      (record (store.table_at (store_of texts g a w) (table_ref t)) { frozen = true })
   freeze_part t h =
       changed_part t (frozen_table t) h
       ∙ ap (λ x. store.with_table (store_of texts g a w) (table_ref t) (record x { frozen = true })) (sym (reads.table_part texts g a w own t h))

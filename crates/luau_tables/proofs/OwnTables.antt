@@ -54,14 +54,16 @@ hold_seen a w Frozen (value.Native x) h k = tt
 hold_seen a w Frozen (value.Host x) h k = tt
 
 -- nobody owns no function, and no coroutine
-closure_owned : (a : ArenaView) (w : Owner) (f : ClosureId) → (objects_of a owner.Frozen).closures ≡ [] → MaySee w (wide f.owner) → HasClosure a f → wide f.owner ≡ w
+closure_owned : (a : ArenaView) (w : Owner) (f : ClosureId) → (objects_of a owner.Frozen).closures ≡ [] → MaySee w (wide f.owner) → HasClosure a f →
+    wide f.owner ≡ w
 unfolding HasClosure
 closure_owned a w f none (inl e) h = e
 closure_owned a w f none (inr e) h =
     let less : f.place < length (objects_of a owner.Frozen).closures = subst (λ u. f.place < length (objects_of a u).closures) e h in
     absurd (omega (arith, less, ap length none))
 
-thread_owned : (a : ArenaView) (w : Owner) (f : ThreadId) → (objects_of a owner.Frozen).threads ≡ [] → MaySee w (wide f.owner) → HasThread a f → wide f.owner ≡ w
+thread_owned : (a : ArenaView) (w : Owner) (f : ThreadId) → (objects_of a owner.Frozen).threads ≡ [] → MaySee w (wide f.owner) → HasThread a f →
+    wide f.owner ≡ w
 unfolding HasThread
 thread_owned a w f none (inl e) h = e
 thread_owned a w f none (inr e) h =
@@ -87,11 +89,13 @@ module _ (texts : List Bytes) (g : Globals) (a : ArenaView) (w : Owner) (own : I
 
   -- ---- tables
 
-  pairs_usable : (s : ShortOwner) → IsSeen w s → (es : Entries) → AllByRecursion (λ e. MayHold a (wide s) e.0 × MayHold a (wide s) e.1) es → AllByRecursion (λ e. HasText texts e.0 × HasText texts e.1) es → OfPairs (MayUse texts a w) es
+  pairs_usable : (s : ShortOwner) → IsSeen w s → (es : Entries) → AllByRecursion (λ e. MayHold a (wide s) e.0 × MayHold a (wide s) e.1) es →
+      AllByRecursion (λ e. HasText texts e.0 × HasText texts e.1) es → OfPairs (MayUse texts a w) es
   pairs_usable s h [] k l = tt
   pairs_usable s h (e ∷ es) k l = ((hold_seen a w s e.0 h k.0.0, l.0.0), (hold_seen a w s e.1 h k.0.1, l.0.1), pairs_usable s h es k.1 l.1)
 
-  some_usable : (s : ShortOwner) → IsSeen w s → (m : Option TableId) → IfSome m (λ m. MayHold a (wide s) (value.Table m)) → OfSome (λ m. MayUse texts a w (value.Table m)) m
+  some_usable : (s : ShortOwner) → IsSeen w s → (m : Option TableId) → IfSome m (λ m. MayHold a (wide s) (value.Table m)) →
+      OfSome (λ m. MayUse texts a w (value.Table m)) m
   some_usable s h None k = tt
   some_usable s h (Some m) k = (hold_seen a w s (value.Table m) h k, tt)
 
@@ -122,7 +126,8 @@ module _ (texts : List Bytes) (g : Globals) (a : ArenaView) (w : Owner) (own : I
   pub got_usable : (t : TableId) (key : Value) → MayUse texts a w (value.Table t) → MayUse texts a w (rule.get (table_at a t) key)
   got_usable t key h = get_holds (MayUse texts a w) (table_at a t) key (usable_table t (seen_table t h)) (tt, tt)
 
-  pub next_usable : (t : TableId) (key : Value) → MayUse texts a w (value.Table t) → OfSome (OfSome (λ e. MayUse texts a w e.0 × MayUse texts a w e.1)) (rule.next (table_at a t) key)
+  pub next_usable : (t : TableId) (key : Value) → MayUse texts a w (value.Table t) →
+      OfSome (OfSome (λ e. MayUse texts a w e.0 × MayUse texts a w e.1)) (rule.next (table_at a t) key)
   next_usable t key h = next_holds (MayUse texts a w) (table_at a t) key (usable_table t (seen_table t h))
 
   pub meta_usable : (t : TableId) → MayUse texts a w (value.Table t) → OfSome (λ m. MayUse texts a w (value.Table m)) (table_at a t).meta
@@ -134,21 +139,27 @@ module _ (texts : List Bytes) (g : Globals) (a : ArenaView) (w : Owner) (own : I
   pub table_part : (t : TableId) → MayUse texts a w (value.Table t) → store.table_at (store_of texts g a w) (table_ref t) ≡ table_of texts (table_at a t)
   table_part t h = table_at_kept texts g a w t (seen_table t h)
 
-  pub get_part : (t : TableId) (key : Value) → MayUse texts a w (value.Table t) → MayUse texts a w key → model.get (store.table_at (store_of texts g a w) (table_ref t)) (meant texts key) ≡ meant texts (rule.get (table_at a t) key)
+  pub get_part : (t : TableId) (key : Value) → MayUse texts a w (value.Table t) → MayUse texts a w key →
+      model.get (store.table_at (store_of texts g a w) (table_ref t)) (meant texts key) ≡ meant texts (rule.get (table_at a t) key)
   get_part t key h k =
       ap (λ t. model.get t (meant texts key)) (table_part t h)
       ∙ get_kept texts w own.interned.distinct (table_at a t) key (own_table t (seen_table t h)) (own_value key k)
 
-  pub next_part : (t : TableId) (key : Value) → MayUse texts a w (value.Table t) → MayUse texts a w key → model.next_entry (store.table_at (store_of texts g a w) (table_ref t)) (meant texts key) ≡ option_map (option_map (pair_of texts)) (rule.next (table_at a t) key)
+  pub next_part : (t : TableId) (key : Value) → MayUse texts a w (value.Table t) → MayUse texts a w key →
+      model.next_entry (store.table_at (store_of texts g a w) (table_ref t)) (meant texts key) ≡ option_map (option_map (pair_of texts))
+      (rule.next (table_at a t) key)
   next_part t key h k =
       ap (λ t. model.next_entry t (meant texts key)) (table_part t h)
       ∙ next_kept texts w own.interned.distinct (table_at a t) key (own_table t (seen_table t h)) (own_value key k)
 
-  pub border_part : (t : TableId) → MayUse texts a w (value.Table t) → model.border (store.table_at (store_of texts g a w) (table_ref t)) ≡ rule.border (table_at a t)
+  pub border_part : (t : TableId) → MayUse texts a w (value.Table t) →
+      model.border (store.table_at (store_of texts g a w) (table_ref t)) ≡ rule.border (table_at a t)
   border_part t h = ap model.border (table_part t h) ∙ border_kept texts w own.interned.distinct (table_at a t) (own_table t (seen_table t h))
 
-  pub frozen_part : (t : TableId) → MayUse texts a w (value.Table t) → (store.table_at (store_of texts g a w) (table_ref t)).frozen ≡ (table_at a t).is_frozen
+  pub frozen_part : (t : TableId) → MayUse texts a w (value.Table t) →
+      (store.table_at (store_of texts g a w) (table_ref t)).frozen ≡ (table_at a t).is_frozen
   frozen_part t h = ap (λ (t : store.TableOf). t.frozen) (table_part t h)
 
-  pub meta_part : (t : TableId) → MayUse texts a w (value.Table t) → (store.table_at (store_of texts g a w) (table_ref t)).meta ≡ option_map table_ref (table_at a t).meta
+  pub meta_part : (t : TableId) → MayUse texts a w (value.Table t) →
+      (store.table_at (store_of texts g a w) (table_ref t)).meta ≡ option_map table_ref (table_at a t).meta
   meta_part t h = ap (λ (t : store.TableOf). t.meta) (table_part t h)

@@ -89,7 +89,8 @@ module _ (texts : List Bytes) (g : Globals) (a : ArenaView) (w : Owner) where
         usable = new.new_table_usable texts g a w own there;
       }
 
-pub texts_added : (texts after : List Bytes) (g : Globals) (a : ArenaView) (w : Owner) → IsOwn texts g a w → Extends texts after → AreTexts after → law.NamesPart texts after g a w
+pub texts_added : (texts after : List Bytes) (g : Globals) (a : ArenaView) (w : Owner) → IsOwn texts g a w → Extends texts after → AreTexts after →
+    law.NamesPart texts after g a w
 texts_added texts after g a w own extends interned =
     record {
       own = more.more_texts texts after extends g a w interned own;

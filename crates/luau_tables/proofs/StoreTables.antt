@@ -33,7 +33,8 @@ written_same s (m.Shared i) = ap (λ l. record s { shared = l }) (set-get_or s.s
 written_same s (m.Own i) = ap (λ l. record s { tables = l }) (set-get_or s.tables i store.empty_table)
 
 -- a table that is there is read as it was written
-read_at : (texts : List Bytes) (g : Globals) (a : ArenaView) (w : Owner) (s : ShortOwner) (p : ℕ) (x : store.TableOf) → IsSeen w s → p < length (objects_of a (wide s)).tables → store.table_at (store.with_table (store_of texts g a w) (by_owner s p) x) (by_owner s p) ≡ x
+read_at : (texts : List Bytes) (g : Globals) (a : ArenaView) (w : Owner) (s : ShortOwner) (p : ℕ) (x : store.TableOf) → IsSeen w s →
+    p < length (objects_of a (wide s)).tables → store.table_at (store.with_table (store_of texts g a w) (by_owner s p) x) (by_owner s p) ≡ x
 unfolding store.with_table store.table_at store_of
 read_at texts g a w Frozen p x h l =
     get_or-set_same (map (table_of texts) (objects_of a owner.Frozen).tables) p x store.empty_table
@@ -42,9 +43,11 @@ read_at texts g a w (Script n) p x h l =
     get_or-set_same (map (table_of texts) (objects_of a w).tables) p x store.empty_table
     (subst (λ n. p < n) (sym (length-map (objects_of a w).tables (table_of texts))) (subst (λ u. p < length (objects_of a u).tables) h l))
 
-pub read_written : (texts : List Bytes) (g : Globals) (a : ArenaView) (w : Owner) (own : IsOwn texts g a w) (t : TableId) (x : store.TableOf) → MayUse texts a w (value.Table t) → store.table_at (store.with_table (store_of texts g a w) (table_ref t) x) (table_ref t) ≡ x
+pub read_written : (texts : List Bytes) (g : Globals) (a : ArenaView) (w : Owner) (own : IsOwn texts g a w) (t : TableId) (x : store.TableOf) →
+    MayUse texts a w (value.Table t) → store.table_at (store.with_table (store_of texts g a w) (table_ref t) x) (table_ref t) ≡ x
 unfolding HasTable
 read_written texts g a w own t x h = read_at texts g a w t.owner t.place x (seen_table texts g a w own t h) h.0.1
 
-pub read_written_in : (w : LibWorld) → IsWorld w → (t : TableId) (x : store.TableOf) → MayUseIn w (value.Table t) → store.table_at (store.with_table (store_in w) (table_ref t) x) (table_ref t) ≡ x
+pub read_written_in : (w : LibWorld) → IsWorld w → (t : TableId) (x : store.TableOf) → MayUseIn w (value.Table t) →
+    store.table_at (store.with_table (store_in w) (table_ref t) x) (table_ref t) ≡ x
 read_written_in w is t x h = read_written w.names w.globals w.arena w.owner is.own t x h

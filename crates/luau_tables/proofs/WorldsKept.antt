@@ -97,7 +97,8 @@ module _ (w : LibWorld) (is : IsWorld w) (names : List Bytes) (extends : Extends
 -- ---- tables change
 
 -- an arena that the library may leave
-pub arena_keeps : (w : LibWorld) (a : ArenaView) → IsWorld w → IsOwn w.names w.globals a w.owner → ChangesTables w.owner w.arena a → Keeps w (record w { arena = a })
+pub arena_keeps : (w : LibWorld) (a : ArenaView) → IsWorld w → IsOwn w.names w.globals a w.owner → ChangesTables w.owner w.arena a →
+    Keeps w (record w { arena = a })
 arena_keeps w a is owned changes =
     record {
       world = record { owner = is.owner; own = owned };
@@ -109,17 +110,21 @@ arena_keeps w a is owned changes =
 
 module _ (w : LibWorld) (is : IsWorld w) where
   -- a value is written to a table that is not frozen
-  pub put_keeps : (t : TableId) (key v : Value) → MayUseIn w (value.Table t) → (table_at w.arena t).is_frozen ≡ false → MayUseIn w key → MayUseIn w v → Keeps w (record w { arena = with_table w.arena t (rule.put (table_at w.arena t) key v) })
+  pub put_keeps : (t : TableId) (key v : Value) → MayUseIn w (value.Table t) → (table_at w.arena t).is_frozen ≡ false → MayUseIn w key →
+      MayUseIn w v → Keeps w (record w { arena = with_table w.arena t (rule.put (table_at w.arena t) key v) })
   put_keeps t key v h thawed k l =
       arena_keeps w (with_table w.arena t (rule.put (table_at w.arena t) key v)) is
       (own.put_own w.names w.globals w.arena w.owner is.own t key v h thawed k l)
       (own.put_changes w.names w.globals w.arena w.owner is.own t key v h thawed)
 
-  pub put_store : (t : TableId) (key v : Value) → MayUseIn w (value.Table t) → MayUseIn w key → store_in (record w { arena = with_table w.arena t (rule.put (table_at w.arena t) key v) }) ≡ store.with_table (store_in w) (table_ref t) (model.put (store.table_at (store_in w) (table_ref t)) (meant w.names key) (meant w.names v))
+  pub put_store : (t : TableId) (key v : Value) → MayUseIn w (value.Table t) → MayUseIn w key →
+      store_in (record w { arena = with_table w.arena t (rule.put (table_at w.arena t) key v) }) ≡ store.with_table (store_in w) (table_ref t)
+      (model.put (store.table_at (store_in w) (table_ref t)) (meant w.names key) (meant w.names v))
   put_store t key v h k = own.put_part w.names w.globals w.arena w.owner is.own t key v h k
 
   -- any change of a table that is not frozen to one of values that the script may use
-  pub table_keeps : (t : TableId) (x : TableView) → MayUseIn w (value.Table t) → (table_at w.arena t).is_frozen ≡ false → x.is_marked ≡ (table_at w.arena t).is_marked → OfTable (MayUseIn w) x → Keeps w (record w { arena = with_table w.arena t x })
+  pub table_keeps : (t : TableId) (x : TableView) → MayUseIn w (value.Table t) → (table_at w.arena t).is_frozen ≡ false →
+      x.is_marked ≡ (table_at w.arena t).is_marked → OfTable (MayUseIn w) x → Keeps w (record w { arena = with_table w.arena t x })
   table_keeps t x h thawed mark new =
       let owned = own.unfrozen_owned w.names w.globals w.arena w.owner is.own t h thawed in
       arena_keeps w (with_table w.arena t x) is
@@ -127,23 +132,29 @@ module _ (w : LibWorld) (is : IsWorld w) where
       (own.changes_table w.arena w.owner t x owned h.0.1 mark)
 
   -- a metatable is set
-  pub meta_keeps : (t : TableId) (m : Option TableId) → MayUseIn w (value.Table t) → (table_at w.arena t).is_frozen ≡ false → OfSome (λ m. MayUseIn w (value.Table m)) m → Keeps w (record w { arena = with_table w.arena t (record (table_at w.arena t) { meta = m }) })
+  pub meta_keeps : (t : TableId) (m : Option TableId) → MayUseIn w (value.Table t) → (table_at w.arena t).is_frozen ≡ false →
+      OfSome (λ m. MayUseIn w (value.Table m)) m → Keeps w (record w { arena = with_table w.arena t (record (table_at w.arena t) { meta = m }) })
   meta_keeps t m h thawed k =
       arena_keeps w (with_table w.arena t (record (table_at w.arena t) { meta = m })) is
       (own.meta_own w.names w.globals w.arena w.owner is.own t m h thawed k)
       (own.meta_changes w.names w.globals w.arena w.owner is.own t m h thawed)
 
-  pub meta_store : (t : TableId) (m : Option TableId) → MayUseIn w (value.Table t) → store_in (record w { arena = with_table w.arena t (record (table_at w.arena t) { meta = m }) }) ≡ store.with_table (store_in w) (table_ref t) (record (store.table_at (store_in w) (table_ref t)) { meta = option_map table_ref m })
+  pub meta_store : (t : TableId) (m : Option TableId) → MayUseIn w (value.Table t) →
+      store_in (record w { arena = with_table w.arena t (record (table_at w.arena t) { meta = m }) }) ≡ store.with_table (store_in w) (table_ref t)
+      (record (store.table_at (store_in w) (table_ref t)) { meta = option_map table_ref m })
   meta_store t m h = own.meta_part_set w.names w.globals w.arena w.owner is.own t m h
 
   -- a table is frozen
-  pub freeze_keeps : (t : TableId) → MayUseIn w (value.Table t) → Keeps w (record w { arena = with_table w.arena t (record (table_at w.arena t) { is_frozen = true }) })
+  pub freeze_keeps : (t : TableId) → MayUseIn w (value.Table t) →
+      Keeps w (record w { arena = with_table w.arena t (record (table_at w.arena t) { is_frozen = true }) })
   freeze_keeps t h =
       arena_keeps w (with_table w.arena t (record (table_at w.arena t) { is_frozen = true })) is
       (own.freeze_own w.names w.globals w.arena w.owner is.own t h)
       (own.freeze_changes w.names w.globals w.arena w.owner is.own t h)
 
-  pub freeze_store : (t : TableId) → MayUseIn w (value.Table t) → store_in (record w { arena = with_table w.arena t (record (table_at w.arena t) { is_frozen = true }) }) ≡ store.with_table (store_in w) (table_ref t) (record (store.table_at (store_in w) (table_ref t)) { frozen = true })
+  pub freeze_store : (t : TableId) → MayUseIn w (value.Table t) →
+      store_in (record w { arena = with_table w.arena t (record (table_at w.arena t) { is_frozen = true }) }) ≡ store.with_table (store_in w)
+      (table_ref t) (record (store.table_at (store_in w) (table_ref t)) { frozen = true })
   freeze_store t h = own.freeze_part w.names w.globals w.arena w.owner is.own t h
 
   -- a table is made
@@ -151,10 +162,12 @@ module _ (w : LibWorld) (is : IsWorld w) where
   new_table_keeps =
       arena_keeps w (new_table w.arena w.owner) is (new.new_table_own w.names w.globals w.arena w.owner is.own) (new.new_table_changes w.arena w.owner)
 
-  pub new_table_store : HasTable (new_table w.arena w.owner) (next_table w.arena w.owner) → store_in (record w { arena = new_table w.arena w.owner }) ≡ store.with_new_table (store_in w) store.empty_table
+  pub new_table_store : HasTable (new_table w.arena w.owner) (next_table w.arena w.owner) →
+      store_in (record w { arena = new_table w.arena w.owner }) ≡ store.with_new_table (store_in w) store.empty_table
   new_table_store there = new.new_table_part w.names w.globals w.arena w.owner is.own there
 
-  pub new_table_use : HasTable (new_table w.arena w.owner) (next_table w.arena w.owner) → MayUseIn (record w { arena = new_table w.arena w.owner }) (value.Table (next_table w.arena w.owner))
+  pub new_table_use : HasTable (new_table w.arena w.owner) (next_table w.arena w.owner) →
+      MayUseIn (record w { arena = new_table w.arena w.owner }) (value.Table (next_table w.arena w.owner))
   new_table_use there = new.new_table_usable w.names w.globals w.arena w.owner is.own there
 
   pub new_table_is : table_ref (next_table w.arena w.owner) ≡ store.next_table (store_in w)
@@ -166,7 +179,8 @@ module _ (w : LibWorld) (is : IsWorld w) (t : TableId) (may : MayUseIn w (value.
   pub get_use : (key : Value) → MayUseIn w (rule.get (table_at w.arena t) key)
   get_use key = reads.got_usable w.names w.globals w.arena w.owner is.own t key may
 
-  pub get_store : (key : Value) → MayUseIn w key → model.get (store.table_at (store_in w) (table_ref t)) (meant w.names key) ≡ meant w.names (rule.get (table_at w.arena t) key)
+  pub get_store : (key : Value) → MayUseIn w key →
+      model.get (store.table_at (store_in w) (table_ref t)) (meant w.names key) ≡ meant w.names (rule.get (table_at w.arena t) key)
   get_store key h = reads.get_part w.names w.globals w.arena w.owner is.own t key may h
 
   pub meta_use : OfSome (λ m. MayUseIn w (value.Table m)) (table_at w.arena t).meta

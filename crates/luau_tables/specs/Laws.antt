@@ -1,15 +1,20 @@
 -- What a script's part of the arena is read, and what changes of the arena are in it.
-use Rattle.std.specs.Prelude.{◌≡◌, ◌≢◌, true, false, List, Option, option_map}
+use Rattle.std.specs.Prelude.{◌≡◌, ◌≢◌, ◌<◌, true, false, List, [], ◌∷◌, length, Option, option_map}
+use Rattle.std.specs.List.{AllByRecursion}
 use Rattle.value_model.specs.Parts.{meant, table_ref}
 use Rattle.value_model.specs.Store as store
 use Rattle.value_model.specs.Tables as model
 use Rattle.value_model.specs.Values.{Bytes}
 use Rattle.value_model.specs.declared.ids.Owner.{Owner}
+use Rattle.value_model.specs.declared.ids.Owner.TheVariants as owner
+use Rattle.value_model.specs.declared.ids.ShortOwner.TheVariants.{Frozen}
 use Rattle.value_model.specs.declared.ids.TableId.{TableId}
 use Rattle.value_model.specs.declared.value.Value.{Value}
 use Rattle.value_model.specs.declared.value.Value.TheVariants as value
-use Rattle.value_arena.specs.Arenas.{ArenaView, table_at, with_table, new_table, next_table}
-use Rattle.luau_tables.specs.Own.{IsOwn, MayUse}
+use Rattle.value_arena.specs.Tables.{TableView, no_table}
+use Rattle.value_arena.specs.Objects.{ObjectsView, no_objects}
+use Rattle.value_arena.specs.Arenas.{ArenaView, no_arena, with_objects, table_at, with_table, new_table, next_table}
+use Rattle.luau_tables.specs.Own.{AreNames, IsOwn, MayUse}
 use Rattle.luau_tables.specs.Part.{pair_of, store_of, OfSome}
 use Rattle.luau_tables.specs.Rules as rule
 use Rattle.luau_tables.specs.Worlds.{ChangesTables, MayUseIn}
@@ -23,7 +28,8 @@ table_in texts g a w t = store.table_at (store_of texts g a w) (table_ref t)
 -- What is read of a table is what the part's table holds, and the script may use it.
 pub record ReadsPart (texts : List Bytes) (g : Globals) (a : ArenaView) (w : Owner) (t : TableId) : Type 0 where
   pub get : (key : Value) → MayUse texts a w key → model.get (table_in texts g a w t) (meant texts key) ≡ meant texts (rule.get (table_at a t) key)
-  pub next : (key : Value) → MayUse texts a w key → model.next_entry (table_in texts g a w t) (meant texts key) ≡ option_map (option_map (pair_of texts)) (rule.next (table_at a t) key)
+  pub next : (key : Value) → MayUse texts a w key →
+      model.next_entry (table_in texts g a w t) (meant texts key) ≡ option_map (option_map (pair_of texts)) (rule.next (table_at a t) key)
   pub border : model.border (table_in texts g a w t) ≡ rule.border (table_at a t)
   pub frozen : (table_in texts g a w t).frozen ≡ (table_at a t).is_frozen
   pub meta : (table_in texts g a w t).meta ≡ option_map table_ref (table_at a t).meta
@@ -79,3 +85,28 @@ pub record NamesPart (texts more : List Bytes) (g : Globals) (a : ArenaView) (w 
 pub record KeepsValues (before after : LibWorld) : Type 0 where
   pub usable : (v : Value) → MayUseIn before v → MayUseIn after v
   pub meaning : (v : Value) → MayUseIn before v → meant after.names v ≡ meant before.names v
+
+-- ---- where a script may start
+
+-- a table that is empty and cannot be written
+abbrev pub empty_frozen : TableView
+empty_frozen = record no_table { is_frozen = true }
+
+-- two such tables that nobody owns, and no other objects
+abbrev pub shared_objects : ObjectsView
+shared_objects = record no_objects { tables = empty_frozen ∷ empty_frozen ∷ [] }
+
+abbrev pub first_objects : Owner → ObjectsView
+first_objects owner.Frozen = shared_objects
+first_objects (owner.Script n) = no_objects
+
+abbrev pub first_arena : ArenaView
+first_arena = with_objects no_arena owner.Frozen shared_objects
+
+-- these two are the global table and the metatable of strings
+pub record StartsWith (texts : List Bytes) (g : Globals) : Type 0 where
+  pub table : g.table ≡ record { owner = Frozen; place = 0 }
+  pub string_meta : g.string_meta ≡ record { owner = Frozen; place = 1 }
+  pub names : AreNames texts g.meta
+  pub paths : AllByRecursion (λ p. p.1.0 < length texts) g.paths.items
+  pub hosts : AllByRecursion (λ x. x.0 < length texts) g.hosts.items

@@ -28,8 +28,10 @@ pub fn part_is_changed()
     ensures others { (texts : List Bytes) (g : Globals) (a b : ArenaView) (w : Owner) → IsScript w → ChangesTables w a b → law.OthersStay texts g a b w }
 {}
 
-/// Texts that come, and steps of a library function, keep what a script may use and what that means.
+/// A script may start where nobody has more than the global table and the metatable of strings. Texts that come, and steps of a
+/// library function, keep what a script may use and what that means.
 pub fn part_is_kept()
+    ensures first { (texts : List Bytes) (g : Globals) (w : Owner) → IsScript w → AreTexts texts → law.StartsWith texts g → IsOwn texts g law.first_arena w }
     ensures texts { (texts more : List Bytes) (g : Globals) (a : ArenaView) (w : Owner) → IsOwn texts g a w → Extends texts more → AreTexts more → law.NamesPart texts more g a w }
     ensures nothing { (w : LibWorld) → IsWorld w → Keeps w w }
     ensures steps { (a b c : LibWorld) → Keeps a b → Keeps b c → Keeps a c }

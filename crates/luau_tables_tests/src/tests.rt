@@ -12,7 +12,7 @@ use std::process::Abort;
 use std::sync::ledger::{Blank, Ledger};
 use std::test::Fail;
 use value_arena::Arena;
-use value_model::{Builtin, HostId, Owner, TableId, Value};
+use value_model::{Builtin, HostId, Owner, ShortOwner, TableId, Value};
 use whole_num::Whole;
 
 // A whole number as a value.
@@ -179,32 +179,38 @@ fn walks(rt: HostRuntime) -> Result<(), Fail> {
     parts::<Brand>(&rt, Blank::new(1))
 }
 
-// A world of two frozen tables more than the global table and the metatable of strings, and of one host function.
-fn world(rt: &impl AllocGlobal) -> Result<LibWorld, Fail> {
-    let mut arena = Arena::new(rt.alloc());
-    let mut names = Interner::new(rt.alloc());
-    let table = arena.new_table(Owner::Frozen)?;
-    let string_meta = arena.new_table(Owner::Frozen)?;
-    let mut paths = Vec::new(rt.alloc());
-    for path in &["math", "a.1"] {
-        let id = arena.new_table(Owner::Frozen)?;
-        paths.push((id, names.intern(path.as_bytes())?))?;
-    }
-    let mut hosts = Vec::new(rt.alloc());
-    hosts.push(names.intern(b"a.f")?)?;
-    let globals = Globals {
-        table,
-        string_meta,
-        paths,
-        hosts,
-        meta: meta_names(),
+// A world without objects.
+fn no_world(rt: &impl AllocGlobal) -> LibWorld {
+    let none = TableId {
+        owner: ShortOwner::Frozen,
+        place: 0,
     };
-    Ok(LibWorld {
-        arena,
-        names,
+    LibWorld {
+        arena: Arena::new(rt.alloc()),
+        names: Interner::new(rt.alloc()),
         owner: Owner::Script(5),
-        globals,
-    })
+        globals: Globals {
+            table: none,
+            string_meta: none,
+            paths: Vec::new(rt.alloc()),
+            hosts: Vec::new(rt.alloc()),
+            meta: meta_names(),
+        },
+    }
+}
+
+// Gives it the global table and the metatable of strings, two tables more, and one host function.
+fn fill(world: &mut LibWorld) -> Result<(), Fail> {
+    world.globals.table = world.arena.new_table(Owner::Frozen)?;
+    world.globals.string_meta = world.arena.new_table(Owner::Frozen)?;
+    for path in &["math", "a.1"] {
+        let id = world.arena.new_table(Owner::Frozen)?;
+        let text = world.names.intern(path.as_bytes())?;
+        world.globals.paths.push((id, text))?;
+    }
+    let text = world.names.intern(b"a.f")?;
+    world.globals.hosts.push(text)?;
+    Ok(())
 }
 
 fn meta_names() -> MetaNames {
@@ -232,9 +238,8 @@ fn meta_names() -> MetaNames {
     }
 }
 
-#[test]
-fn texts(rt: HostRuntime) -> Result<(), Fail> {
-    let mut world = world(&rt)?;
+// Makes objects of a script, and shows values of each kind.
+fn show(rt: &(impl Abort + AllocGlobal), world: &mut LibWorld) -> Result<(), Fail> {
     let owner = Owner::Script(5);
     let env = world.arena.new_table(owner)?;
     let env_meta = world.arena.new_table(owner)?;
@@ -289,4 +294,11 @@ fn texts(rt: HostRuntime) -> Result<(), Fail> {
         assert_eq!(rt; out.as_slice(), text.as_bytes());
     }
     Ok(())
+}
+
+#[test]
+fn texts(rt: HostRuntime) -> Result<(), Fail> {
+    let mut world = no_world(&rt);
+    fill(&mut world)?;
+    show(&rt, &mut world)
 }

@@ -154,18 +154,21 @@ unfolding table_at closure_at cell_at thread_at HasTable HasClosure HasCell HasT
 running_keeps a r h = record { tables = h.tables; closures = h.closures; cells = h.cells; threads = h.threads }
 
 -- nobody has objects in an arena without any
-none_of : (w : Owner) → objects_of no_arena w ≡ no_objects
+pub none_of : (w : Owner) → objects_of no_arena w ≡ no_objects
 none_of w = at_padded [] (slot w)
 
 pub empty_owned : IsOwned no_arena
 unfolding table_at closure_at cell_at thread_at HasClosure
 empty_owned =
     record {
-      tables = λ t. subst (λ (o : ObjectsView). MayBeTable no_arena (wide t.owner) (get_or o.tables t.place no_table)) (sym (none_of (wide t.owner))) (tt, tt);
+      tables = λ t. subst (λ (o : ObjectsView). MayBeTable no_arena (wide t.owner) (get_or o.tables t.place no_table)) (sym (none_of (wide t.owner)))
+          (tt, tt);
       closures = λ f h. absurd (omega (arith, subst (λ (o : ObjectsView). f.place < length o.closures) (none_of (wide f.owner)) h));
       cells = λ c. subst (λ (o : ObjectsView). MayHold no_arena (wide c.owner) (get_or o.cells c.place Nil)) (sym (none_of (wide c.owner))) tt;
-      threads = λ t. subst (λ (o : ObjectsView). MayBeThread no_arena (wide t.owner) (get_or o.threads t.place no_coroutine)) (sym (none_of (wide t.owner))) (tt, tt, tt);
+      threads = λ t. subst (λ (o : ObjectsView). MayBeThread no_arena (wide t.owner) (get_or o.threads t.place no_coroutine))
+          (sym (none_of (wide t.owner))) (tt, tt, tt);
     }
 
-pub entry_keeps : (a : ArenaView) (w : Owner) (t : TableView) (key v : Value) → MayBeTable a w t → MayHold a w key → MayHold a w v → MayBeTable a w (law.with_entry t key v)
+pub entry_keeps : (a : ArenaView) (w : Owner) (t : TableView) (key v : Value) → MayBeTable a w t → MayHold a w key → MayHold a w v →
+    MayBeTable a w (law.with_entry t key v)
 entry_keeps a w t key v h k l = (owning.table_written a w t.entries key v h.0 k l, h.1)

@@ -8,4 +8,5 @@ pub mod Padding
 pub mod Places
 pub mod Reaching
 pub mod Sameness
+pub mod WholeKeys
 pub mod Written

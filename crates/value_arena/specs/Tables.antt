@@ -1,6 +1,8 @@
 -- What a table is: its entries in the order in which their keys came, its metatable, and two marks.
 use Rattle.std.specs.Prelude.{ℕ, ℤ, Bool, true, false, List, [], Option, None, ◌^◌, position}
+use Rattle.std.specs.List.{AllByRecursion}
 use Rattle.std.specs.Map.{keys_of}
+use Rattle.whole_num.specs.Whole.{IsWhole}
 use Rattle.indexmap.specs.IndexMap.{set_value_at}
 use Rattle.value_model.specs.Pairs as pairs
 use Rattle.value_model.specs.declared.ids.TableId.{TableId}
@@ -35,6 +37,14 @@ no_table = record { entries = []; meta = None; is_frozen = false; is_marked = fa
 -- a table has so many entries at most
 abbrev pub most_entries : ℕ
 most_entries = 2 ^ 53
+
+-- a key that is a number is a whole number of the language
+abbrev pub IsWholeKey : Value → Type 0
+IsWholeKey (Num z) = IsWhole z
+IsWholeKey key = Unit {0}
+
+abbrev pub AreWholeKeys : Entries → Type 0
+AreWholeKeys es = AllByRecursion (λ e. IsWholeKey e.0) es
 
 -- the place of a key
 abbrev pub place_of : Value → Entries → Option ℕ

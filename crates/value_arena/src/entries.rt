@@ -18,6 +18,16 @@ pub(crate) fn is_nil(value: &Value) -> bool
     matches!(value, Value::Nil)
 }
 
+/// A key that is a number is in range, as all numbers are.
+#[inline(always)]
+pub(crate) fn key_in_range(key: &Value)
+    ensures { spec.IsWholeKey key.now }
+{
+    if let Value::Num(number) = key {
+        number.get();
+    }
+}
+
 /// The place of a whole number in a list from one on, where it has one.
 #[inline(always)]
 fn list_place(number: Whole) -> Option<usize>

@@ -2,6 +2,7 @@
 
 ghost use Rattle.std.specs.Prelude.{◌≡◌, ◌<◌, ◌≤◌, ◌++◌, ◌∷◌, [], true, false, length, slice_get, IfSome, Some, None, OnOk, OnErr};
 ghost use Rattle.value_arena.specs.Tables as spec;
+ghost use Rattle.value_model.specs.declared.value.Value.TheVariants.{Nil, Num};
 
 use crate::entries;
 use indexmap::IndexMap;
@@ -9,6 +10,7 @@ use resource::OutOfMemory;
 use std::alloc::Global;
 use std::marker::Model;
 use value_model::{TableId, Value};
+use whole_num::Whole;
 
 // A table has so many entries at most.
 const MOST_ENTRIES: usize = 9_007_199_254_740_992;
@@ -27,13 +29,13 @@ pub struct Table {
 
 impl Model for Table {
     ghost use Rattle.std.specs.Prelude.{◌≡◌, ◌≤◌, length};
-    ghost use Rattle.value_arena.specs.Tables.{TableView, border_of, most_entries};
+    ghost use Rattle.value_arena.specs.Tables.{AreWholeKeys, TableView, border_of, most_entries};
 
     ghost Value = { TableView };
 
     ghost view = { λ t. record { entries = t.entries.entries; meta = t.meta; is_frozen = t.is_frozen; is_marked = t.is_marked } };
 
-    ghost invariant = { λ t. (t.border ≡ border_of t.entries.entries) × (length t.entries.entries ≤ most_entries) };
+    ghost invariant = { λ t. (t.border ≡ border_of t.entries.entries) × (length t.entries.entries ≤ most_entries) × AreWholeKeys t.entries.entries };
 }
 
 impl Table {
@@ -84,6 +86,18 @@ impl Table {
         entries::value(&self.entries, &key)
     }
 
+    /// The value under a whole number, which is nil where the number is out of range.
+    pub fn item(&self, number: i64) -> Value
+        ensures value { result ≡ spec.value_in self.now.entries (Num number) }
+        ensures beyond { (spec.IsWholeKey (Num number) → ⊥) → result ≡ Nil }
+    {
+        let entries = &self.entries;
+        match Whole::new(number) {
+            Some(number) => entries::value(entries, &Value::Num(number)),
+            None => Value::Nil,
+        }
+    }
+
     /// The border: the least number from 0 on behind which there is nil.
     pub fn border(&self) -> usize
         ensures { result ≡ spec.border_of self.now.entries }
@@ -113,6 +127,7 @@ impl Table {
             return Err(OutOfMemory);
         }
         let (pushed, stored) = (&key, &value);
+        entries::key_in_range(pushed);
         self.entries.insert(*pushed, *stored)?;
         self.border = entries::border_after(&self.entries, self.border, pushed, stored);
         Ok(())

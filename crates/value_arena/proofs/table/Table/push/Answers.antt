@@ -1,8 +1,9 @@
-use Rattle.std.proofs.Common.{◌≡◌, ◌++◌, ◌∷◌, [], ap, sym, ◌∙◌, subst}
+use Rattle.std.proofs.Common.{◌≡◌, ◌≤◌, length, length-append, arith, ◌++◌, ◌∷◌, [], ap, sym, ◌∙◌, subst}
 use Rattle.value_arena.specs.Tables as spec
 use Rattle.value_arena.specs.Borders.{IsBorderBut}
 use Rattle.value_arena.proofs.Written.{inserted, pushed}
 use Rattle.value_arena.proofs.Borders.{put, value_put, border_put}
+use Rattle.value_arena.proofs.WholeKeys.{whole_behind}
 use Rattle.value_arena.proofs.table.Table.push.Goals as goal
 
 pub border_after-self-inside-requires-clause-before : goal.border_after-self-inside-requires-clause-before
@@ -27,3 +28,11 @@ returns-clause-ok c =
     ap (λ es. record { entries = es; meta = c.self.inside.meta; is_frozen = c.self.inside.is_frozen; is_marked = c.self.inside.is_marked })
     (c.in_ok-insert.ensures.entries ∙ inserted es c.args.key c.args.value (was ∙ c.requires.new))
     ∙ ap (λ (t : spec.TableView). record t { entries = t.entries ++ (c.args.key, c.args.value) ∷ [] }) c.self.view_is
+
+pub invariant_of-self-2 : goal.invariant_of-self-2
+invariant_of-self-2 c =
+    let es = c.self.inside.entries.entries in
+    let was : spec.place_of c.args.key es ≡ spec.place_of c.args.key c.args.self.now.entries = ap (λ (t : spec.TableView). spec.place_of c.args.key t.entries) c.self.view_is in
+    let now : c.insert.new.self.entries ≡ es ++ (c.args.key, c.args.value) ∷ [] = c.in_ok-insert.ensures.entries ∙ inserted es c.args.key c.args.value (was ∙ c.requires.new) in
+    let few : length c.insert.new.self.entries ≤ spec.most_entries = omega (arith, ap length now, length-append es ((c.args.key, c.args.value) ∷ [])) in
+    (c.border_after-self-inside.ensures, few, subst spec.AreWholeKeys (sym now) (whole_behind es c.args.key c.args.value c.self.invariant.2 c.key_in_range.ensures))

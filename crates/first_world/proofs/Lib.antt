@@ -1,0 +1,2 @@
+pub mod NumbersKept
+pub mod Worlds

@@ -1,0 +1,7 @@
+//! The tests of `lib_core`.
+#![tactic(auto)]
+
+#[cfg(test)]
+mod tests;
+#[cfg(test)]
+mod world;
