@@ -2,6 +2,8 @@
 #![tactic(auto)]
 
 #[cfg(test)]
-mod tests;
+mod given;
 #[cfg(test)]
-mod world;
+mod shown;
+#[cfg(test)]
+mod tests;

@@ -1,27 +1,16 @@
-use crate::world::{answer_into, world};
-use byte_text::StrId;
+ghost use Rattle.std.specs.List.{AllByRecursion};
+ghost use Rattle.std.specs.Prelude.{◌≡◌};
+ghost use Rattle.luau_tables.specs.Worlds.{IsWorld, MayUseIn};
+
+use crate::given::{Given, is_of_string, number, text_of, value_of, values_of};
+use crate::shown::answer_into;
+use Given::{High, Named, Nil, Nothing, Number, Plain, Text};
+use first_world::{add_table, first_world};
 use lib_string::{call, go_on};
 use luau_tables::{LibAnswer, LibWorld};
 use std::process::Abort;
 use std::test::Fail;
-use value_model::{Builtin, Owner, Value};
-use whole_num::Whole;
-
-// An argument.
-#[derive(Clone, Copy)]
-enum Given {
-    Nothing,
-    Nil,
-    Number(i64),
-    Text(&'static str),
-    // the byte 228, which is no letter of ASCII
-    High,
-    // a table without a metatable, and one whose metatable has `__tostring`
-    Plain,
-    Named,
-}
-
-use Given::{High, Named, Nil, Nothing, Number, Plain, Text};
+use value_model::{Builtin, Value};
 
 const ROWS: [(Builtin, Given, Given, Given, &str); 102] = [
     (Builtin::StringLen, Text("abc"), Nothing, Nothing, " 3"),
@@ -602,62 +591,54 @@ const ROWS: [(Builtin, Given, Given, Given, &str); 102] = [
     (Builtin::StringFormat, Text("%s%d"), Named, Nothing, "call"),
 ];
 
-// The value of an argument, which is made where it is not there.
-fn value_of(given: &Given, world: &mut LibWorld) -> Result<Option<Value>, Fail> {
-    Ok(match given {
-        Nothing => None,
-        Nil => Some(Value::Nil),
-        Number(n) => Some(Whole::new(*n).map_or(Value::Nil, Value::Num)),
-        Text(text) => Some(Value::Str(world.names.intern(text.as_bytes())?)),
-        High => Some(Value::Str(world.names.intern(&[228])?)),
-        Plain => Some(Value::Table(world.arena.new_table(world.owner)?)),
-        Named => Some(named(world)?),
-    })
-}
-
-// A table whose metatable has `tostring` under `__tostring`.
-fn named(world: &mut LibWorld) -> Result<Value, Fail> {
-    let id = world.arena.new_table(world.owner)?;
-    let meta = world.arena.new_table(world.owner)?;
-    let name = Value::Str(world.globals.meta.tostring);
-    world
-        .arena
-        .table_mut(meta)
-        .push(name, Value::Native(Builtin::Tostring))?;
-    world.arena.table_mut(id).put_meta(Some(meta));
-    Ok(Value::Table(id))
-}
-
-// The text of what a row's call gives.
-fn text_of(
+// The text of what a call gives.
+fn called(
     rt: &impl AllocGlobal,
-    row: &(Builtin, Given, Given, Given, &str),
-) -> Result<Vec<u8>, Fail> {
-    let mut world = world(rt)?;
-    let _env = world.arena.new_table(world.owner)?;
-    let _meta = world.arena.new_table(world.owner)?;
-    let mut args = Vec::new(rt.alloc());
-    for given in &[row.1, row.2, row.3] {
-        if let Some(value) = value_of(given, &mut world)? {
-            args.push(value)?;
-        }
-    }
+    f: Builtin,
+    args: &[Value],
+    world: &mut LibWorld,
+) -> Result<Vec<u8>, Fail>
+    requires world { IsWorld world.old }
+    requires args { AllByRecursion (MayUseIn world.old) args.now }
+{
     let mut results = Vec::new(rt.alloc());
-    let answer = call(rt.alloc(), row.0, args.as_slice(), &mut world, &mut results)?;
     let mut out = Vec::new(rt.alloc());
-    answer_into(&answer, results.as_slice(), &world, &mut out)?;
+    if is_of_string(f) {
+        let answer = call(rt.alloc(), f, args, world, &mut results)?;
+        answer_into(&answer, results.as_slice(), world, &mut out)?;
+    }
     Ok(out)
 }
 
-// What is made of an answer, in a world where the format `<%-4s|%s>` has asked a table for its text.
-fn gone_on(rt: &impl AllocGlobal, given: &Given) -> Result<Vec<u8>, Fail> {
-    let mut world = world(rt)?;
-    let mut args = Vec::new(rt.alloc());
-    for given in &[Text("<%-4s|%s>"), Named, Number(5)] {
-        if let Some(value) = value_of(given, &mut world)? {
-            args.push(value)?;
-        }
+// The same, of a row.
+fn text_of_row(
+    rt: &impl AllocGlobal,
+    row: &(Builtin, Given, Given, Given, &str),
+) -> Result<Vec<u8>, Fail> {
+    let mut world = first_world(rt.alloc())?;
+    let _ = add_table(&mut world)?;
+    let _ = add_table(&mut world)?;
+    let args = values_of(rt.alloc(), &[row.1, row.2, row.3], &mut world)?;
+    called(rt, row.0, args.as_slice(), &mut world)
+}
+
+#[test]
+fn rows(rt: HostRuntime) -> Result<(), Fail> {
+    for row in &ROWS {
+        let text = text_of_row(&rt, row)?;
+        assert_eq!(rt; text.as_slice(), row.4.as_bytes());
     }
+    Ok(())
+}
+
+// What is made of an answer where the format `<%-4s|%s>` has asked a table for its text.
+fn gone_on(rt: &impl AllocGlobal, given: &Given) -> Result<Vec<u8>, Fail> {
+    let mut world = first_world(rt.alloc())?;
+    let args = values_of(
+        rt.alloc(),
+        &[Text("<%-4s|%s>"), Named, Number(5)],
+        &mut world,
+    )?;
     let mut results = Vec::new(rt.alloc());
     let asked = call(
         rt.alloc(),
@@ -673,7 +654,9 @@ fn gone_on(rt: &impl AllocGlobal, given: &Given) -> Result<Vec<u8>, Fail> {
         then,
     } = asked
     {
-        if let Some(value) = value_of(given, &mut world)? {
+        if then.builtin == Builtin::StringFormat && then.at < then.args.len() {
+            let value = value_of(given, &mut world)?;
+            results.clear();
             let answer = go_on(rt.alloc(), then, value, &mut world, &mut results)?;
             answer_into(&answer, results.as_slice(), &world, &mut out)?;
         }
@@ -696,69 +679,35 @@ fn answers(rt: HostRuntime) -> Result<(), Fail> {
     Ok(())
 }
 
-// A text of so many bytes, made by `rep`.
-fn long(rt: &impl AllocGlobal, count: i64, world: &mut LibWorld) -> Result<Value, Fail> {
+// How many bytes `byte` gives of a text of so many, or that they are too many.
+fn bytes_of(rt: &impl AllocGlobal, count: i64) -> Result<usize, Fail> {
+    let mut world = first_world(rt.alloc())?;
+    let mut made = Vec::new(rt.alloc());
+    let text = text_of(b"a", &mut world)?;
+    let _ = call(
+        rt.alloc(),
+        Builtin::StringRep,
+        &[text, number(count)],
+        &mut world,
+        &mut made,
+    )?;
     let mut results = Vec::new(rt.alloc());
-    let args = [
-        Value::Str(world.names.intern(b"a")?),
-        Whole::new(count).map_or(Value::Nil, Value::Num),
-    ];
-    let _ = call(rt.alloc(), Builtin::StringRep, &args, world, &mut results)?;
-    Ok(results.pop().unwrap_or(Value::Nil))
-}
-
-// What a function gives for a first argument of so many bytes, and how many values that are.
-fn text_of_long(
-    rt: &impl AllocGlobal,
-    row: &(Builtin, Given, Given, i64, &str, usize),
-) -> Result<(Vec<u8>, usize), Fail> {
-    let mut world = world(rt)?;
-    let mut args = Vec::new(rt.alloc());
-    if let Text(text) = row.1 {
-        args.push(Value::Str(world.names.intern(text.as_bytes())?))?;
+    if let Some(long) = made.pop() {
+        let args = [long, number(1), number(-1)];
+        let _ = call(
+            rt.alloc(),
+            Builtin::StringByte,
+            &args,
+            &mut world,
+            &mut results,
+        )?;
     }
-    args.push(long(rt, row.3, &mut world)?)?;
-    if let Number(n) = row.2 {
-        args.push(Whole::new(1).map_or(Value::Nil, Value::Num))?;
-        args.push(Whole::new(n).map_or(Value::Nil, Value::Num))?;
-    }
-    let mut results = Vec::new(rt.alloc());
-    let answer = call(rt.alloc(), row.0, args.as_slice(), &mut world, &mut results)?;
-    let mut out = Vec::new(rt.alloc());
-    if let LibAnswer::RunError(error) = answer {
-        error.text_into(&world.names, &mut out)?;
-    }
-    Ok((out, results.len()))
-}
-
-const LIMITS: [(Builtin, Given, Given, i64, &str, usize); 3] = [
-    (Builtin::StringByte, Nothing, Number(-1), 8000, "", 8000),
-    (
-        Builtin::StringByte,
-        Nothing,
-        Number(-1),
-        8001,
-        "too many values",
-        0,
-    ),
-    (Builtin::StringLen, Nothing, Nothing, 16777216, "", 1),
-];
-
-#[test]
-fn limits(rt: HostRuntime) -> Result<(), Fail> {
-    for row in &LIMITS {
-        let (text, count) = text_of_long(&rt, row)?;
-        assert_eq!(rt; text.as_slice(), row.4.as_bytes());
-        assert_eq!(rt; count, row.5);
-    }
-    Ok(())
+    Ok(results.len())
 }
 
 #[test]
-fn rows(rt: HostRuntime) -> Result<(), Fail> {
-    for row in &ROWS {
-        let text = text_of(&rt, row)?;
-        assert_eq!(rt; text.as_slice(), row.4.as_bytes());
-    }
+fn most_values(rt: HostRuntime) -> Result<(), Fail> {
+    assert_eq!(rt; bytes_of(&rt, 8000)?, 8000);
+    assert_eq!(rt; bytes_of(&rt, 8001)?, 0);
     Ok(())
 }
