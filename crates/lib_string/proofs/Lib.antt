@@ -1,0 +1,17 @@
+pub mod AddedTexts
+pub mod BuiltinRows
+pub mod CodeRows
+pub mod CodeValues
+pub mod DirectiveRows
+pub mod FormatAnswers
+pub mod FormatSteps
+pub mod GivenValues
+pub mod ListedTables
+pub mod MetaRows
+pub mod NumbersThere
+pub mod PieceTexts
+pub mod PiecesRead
+pub mod RepeatedRows
+pub mod Spans
+pub mod SplitPieces
+pub mod WholeRows
