@@ -2,17 +2,20 @@
 -- index or a member; a compound assignment computes by an arithmetic operator or `..`, and no other node joins by `..` but a run
 -- of two operands or more; an interpolated string has one text more than values; and where a list stands that the grammar does not
 -- let be empty, it is not: arms, what is assigned to and what is assigned, the names of a `local`, the names and values of a loop.
-use Rattle.std.specs.Prelude.{ℕ, ◌+◌, nat_eq, Bool, true, false, ◌&&◌, IsTrue, List, [], ◌∷◌, length, Option, Some, None}
+use Rattle.std.specs.Prelude.{◌≡◌, ℕ, ◌+◌, ◌≤◌, nat_eq, Bool, true, false, ◌&&◌, IsTrue, List, [], ◌∷◌, length, Option, Some, None, slice_get}
+use Rattle.byte_text.specs.declared.StrId.{StrId}
 use Rattle.syntax_tree.specs.declared.tree.Arm.{Arm}
 use Rattle.syntax_tree.specs.declared.tree.BinOp.{BinOp}
 use Rattle.syntax_tree.specs.declared.tree.BinOp.TheVariants as op
 use Rattle.syntax_tree.specs.declared.tree.Expr.{Expr}
 use Rattle.syntax_tree.specs.declared.tree.ExprArm.{ExprArm}
+use Rattle.syntax_tree.specs.declared.tree.ExprKind as expr
 use Rattle.syntax_tree.specs.declared.tree.ExprKind.TheOpen as level
 use Rattle.syntax_tree.specs.declared.tree.ExprKind.TheOpen.{ExprKind-F, FieldKind-F, StatKind-F}
 use Rattle.syntax_tree.specs.declared.tree.Field.{Field}
 use Rattle.syntax_tree.specs.declared.tree.FuncBody.{FuncBody}
 use Rattle.syntax_tree.specs.declared.tree.Stat.{Stat}
+use Rattle.syntax_tree.specs.declared.tree.StatKind as stat
 use Rattle.syntax_tree.specs.declared.tree.Tree.{Tree}
 use Rattle.syntax_tree.specs.Fold.{Steps, at_expr, at_stat, at_func, at_arm, at_expr_arm, at_field}
 
@@ -157,3 +160,24 @@ proper_field = at_field steps
 
 abbrev pub IsProper : Tree → Type 0
 IsProper tree = IsTrue (proper_func tree.main)
+
+-- ---- what it says of a node
+
+-- a call of a function or of a method
+pub data IsCall (e : Expr) : Type 0 where
+  function_call : (callee : Expr) (args : List Expr) → e.kind ≡ expr.Call callee args → IsCall e
+  method_call : (object : Expr) (x : StrId) (args : List Expr) → e.kind ≡ expr.Method object x args → IsCall e
+
+-- what can be assigned to
+pub data IsTarget (e : Expr) : Type 0 where
+  name : (x : StrId) → e.kind ≡ expr.Name x → IsTarget e
+  index : (table key : Expr) → e.kind ≡ expr.Index table key → IsTarget e
+  member : (table : Expr) (x : StrId) → e.kind ≡ expr.Member table x → IsTarget e
+
+-- the nodes of a proper tree
+pub record ProperNodes : Type 0 where
+  pub call : (s : Stat) (e : Expr) → s.kind ≡ stat.Call e → IsTrue (proper_stat s) → IsCall e
+  pub assigned : (s : Stat) (targets values : List Expr) → s.kind ≡ stat.Assign targets values → IsTrue (proper_stat s) → (k : ℕ) (e : Expr) → slice_get targets k ≡ Some e → IsTarget e
+  pub compound : (s : Stat) (operator : BinOp) (target value : Expr) → s.kind ≡ stat.Compound operator target value → IsTrue (proper_stat s) → IsTarget target × IsTrue (computes operator)
+  pub run : (e : Expr) (operands : List Expr) → e.kind ≡ expr.Concat operands → IsTrue (form_expr e).proper → 2 ≤ length operands
+  pub between : (e : Expr) (operator : BinOp) (a b : Expr) → e.kind ≡ expr.Binary operator a b → IsTrue (form_expr e).proper → IsTrue (stands_between operator)
