@@ -1,5 +1,6 @@
 pub mod Changes
 pub mod Finding
+pub mod Functions
 pub mod Giving
 pub mod Inserting
 pub mod Lists
