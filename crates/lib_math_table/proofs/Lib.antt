@@ -6,4 +6,5 @@ pub mod Inserting
 pub mod Lists
 pub mod Made
 pub mod Moved
+pub mod Protected
 pub mod Removing
