@@ -1,4 +1,5 @@
 pub mod Changes
+pub mod Elements
 pub mod Finding
 pub mod Functions
 pub mod Giving
