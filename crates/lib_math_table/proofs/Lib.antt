@@ -1,8 +1,11 @@
 pub mod Changes
+pub mod Elements
 pub mod Finding
+pub mod Functions
 pub mod Giving
 pub mod Inserting
 pub mod Lists
 pub mod Made
 pub mod Moved
+pub mod Protected
 pub mod Removing

@@ -200,8 +200,8 @@ module _ (w : LibWorld) (world : IsWorld w) (there : HasTable (new_table w.arena
   packed_is =
       let d = world.own.interned.distinct in
       let own : OfTable (IsOfScript w.names w.owner) (put_all no_table (pos 1) vs) =
-          kept.put_all_holds (IsOfScript w.names w.owner) tt (λ z. tt) no_table (pos 1) vs (record { entries = tt; meta = tt })
-          (each_map (MayUseIn w) (IsOfScript w.names w.owner) (own_value w.names w.globals w.arena w.owner world.own) vs used) in
+      kept.put_all_holds (IsOfScript w.names w.owner) tt (λ z. tt) no_table (pos 1) vs (record { entries = tt; meta = tt })
+      (each_map (MayUseIn w) (IsOfScript w.names w.owner) (own_value w.names w.globals w.arena w.owner world.own) vs used) in
       ap (λ y. tables.put y (m.Text (codes "n")) (m.Number (pos (length (map (meant w.names) vs))))) (listed_is w world there (pos 1) vs used)
       ∙ ap (λ bs. tables.put (table_of w.names (put_all no_table (pos 1) vs)) (m.Text bs) (m.Number (pos (length (map (meant w.names) vs))))) (sym (get_or_from_slice_get w.names n.0 (codes "n") [] is_n))
       ∙ ap (λ k. tables.put (table_of w.names (put_all no_table (pos 1) vs)) (m.Text (bytes_at w.names n.0)) (m.Number k)) (ap pos (length-map vs (meant w.names)) ∙ sym count)

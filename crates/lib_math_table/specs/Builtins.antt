@@ -1,5 +1,4 @@
 -- The functions of `math` and `table`.
-use Rattle.std.specs.Prelude.{◌⊎◌}
 use Rattle.value_model.specs.declared.builtin.Builtin.{Builtin}
 use Rattle.value_model.specs.declared.builtin.Builtin.TheVariants as builtin
 
@@ -32,5 +31,16 @@ IsTable builtin.TableMove = Unit {0}
 IsTable builtin.TableSort = Unit {0}
 IsTable f = ⊥
 
-abbrev pub IsMathOrTable : Builtin → Type 0
-IsMathOrTable f = IsMath f ⊎ IsTable f
+-- those other than `concat`, `clone` and `sort`
+abbrev pub IsPlainTable : Builtin → Type 0
+IsPlainTable builtin.TableInsert = Unit {0}
+IsPlainTable builtin.TableRemove = Unit {0}
+IsPlainTable builtin.TableUnpack = Unit {0}
+IsPlainTable builtin.TablePack = Unit {0}
+IsPlainTable builtin.TableCreate = Unit {0}
+IsPlainTable builtin.TableFind = Unit {0}
+IsPlainTable builtin.TableClear = Unit {0}
+IsPlainTable builtin.TableFreeze = Unit {0}
+IsPlainTable builtin.TableIsfrozen = Unit {0}
+IsPlainTable builtin.TableMove = Unit {0}
+IsPlainTable f = ⊥

@@ -7,7 +7,7 @@ ghost use Rattle.value_model.specs.Parts.{meant};
 ghost use Rattle.luau_tables.specs.Answers.{Answered, raised_by};
 ghost use Rattle.luau_tables.specs.Worlds.{IsWorld, Keeps, MayUseIn, store_in};
 ghost use Rattle.lib_arguments.specs.Rows.{Runs};
-ghost use Rattle.lib_math_table.specs.Builtins.{IsMath, IsTable};
+ghost use Rattle.lib_math_table.specs.Builtins.{IsMath, IsPlainTable, IsTable};
 
 use crate::cloning::clone_table;
 use crate::edits::{insert, remove};
@@ -78,12 +78,12 @@ fn math(
 {
     match builtin {
         Builtin::MathAbs => absolute(args, world, results),
-        Builtin::MathCeil => whole(builtin, args, world, results),
-        Builtin::MathFloor => whole(builtin, args, world, results),
-        Builtin::MathRound => whole(builtin, args, world, results),
+        Builtin::MathCeil => whole(Builtin::MathCeil, args, world, results),
+        Builtin::MathFloor => whole(Builtin::MathFloor, args, world, results),
+        Builtin::MathRound => whole(Builtin::MathRound, args, world, results),
         Builtin::MathSign => sign(args, world, results),
-        Builtin::MathMax => best(builtin, true, args, world, results),
-        Builtin::MathMin => best(builtin, false, args, world, results),
+        Builtin::MathMax => best(Builtin::MathMax, true, args, world, results),
+        Builtin::MathMin => best(Builtin::MathMin, false, args, world, results),
         Builtin::MathClamp => clamp(args, world, results),
         _ => unreachable!(),
     }
@@ -103,19 +103,37 @@ fn table(
     ensures keeps { Keeps world.old world.new }
 {
     match builtin {
+        Builtin::TableConcat => concat(args, world, results),
+        Builtin::TableClone => clone_table(args, world, results),
+        Builtin::TableSort => sort(args, world, *results.allocator()),
+        _ => plain_table(builtin, args, world, results),
+    }
+}
+
+// Calls a function of `table` other than `concat`, `clone` and `sort`.
+fn plain_table(
+    builtin: Builtin,
+    args: &[Value],
+    world: &mut LibWorld,
+    results: &mut Vec<Value>,
+) -> Result<(), Ending>
+    requires builtin { IsPlainTable builtin }
+    requires world { IsWorld world.old }
+    requires args { AllByRecursion (MayUseIn world.old) args.now }
+    ensures runs { Runs world.old world.new results.old.items results.new.items result (lib builtin (map (meant world.old.names) args.now) (store_in world.old)) }
+    ensures keeps { Keeps world.old world.new }
+{
+    match builtin {
         Builtin::TableInsert => insert(args, world),
         Builtin::TableRemove => remove(args, world, results),
-        Builtin::TableConcat => concat(args, world, results),
         Builtin::TableUnpack => unpack(args, world, results),
         Builtin::TablePack => pack(args, world, results),
         Builtin::TableCreate => create(args, world, results),
         Builtin::TableFind => find(args, world, results),
         Builtin::TableClear => clear(args, world),
-        Builtin::TableClone => clone_table(args, world, results),
         Builtin::TableFreeze => freeze(args, world, results),
         Builtin::TableIsfrozen => isfrozen(args, world, results),
         Builtin::TableMove => move_items(args, world, results),
-        Builtin::TableSort => sort(args, world, *results.allocator()),
         _ => unreachable!(),
     }
 }

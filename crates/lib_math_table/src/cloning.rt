@@ -45,7 +45,12 @@ fn is_protected(world: &LibWorld, t: TableId) -> bool
 {
     match world.arena.table(t).meta() {
         Some(meta) => {
-            !is_nil(&world.arena.table(meta).value(Value::Str(world.globals.meta.metatable)))
+            !is_nil(
+                &world
+                    .arena
+                    .table(meta)
+                    .value(Value::Str(world.globals.meta.metatable)),
+            )
         }
         None => false,
     }

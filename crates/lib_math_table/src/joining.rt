@@ -76,7 +76,14 @@ fn concat_with(
     };
     let count = count_between(first, last);
     let mut text = Vec::new(*results.allocator());
-    match join(&world.names, world.arena.table(t), separator, first, count, &mut text) {
+    match join(
+        &world.names,
+        world.arena.table(t),
+        separator,
+        first,
+        count,
+        &mut text,
+    ) {
         Ok(()) => {}
         Err(e) => return Err(e),
     }

@@ -111,7 +111,13 @@ fn packed(
         Ok(t) => t,
         Err(OutOfMemory) => return Err(Ending::OutOfMemory),
     };
-    match put_all_and(world.arena.table_mut(t), one(), values, Value::Str(n), Value::Num(count)) {
+    match put_all_and(
+        world.arena.table_mut(t),
+        one(),
+        values,
+        Value::Str(n),
+        Value::Num(count),
+    ) {
         Ok(()) => give(results, Value::Table(t)),
         Err(OutOfMemory) => Err(Ending::OutOfMemory),
     }

@@ -55,11 +55,7 @@ pub(crate) fn whole(
     give(results, Value::Num(n))
 }
 
-pub(crate) fn sign(
-    args: &[Value],
-    world: &LibWorld,
-    results: &mut Vec<Value>,
-) -> Result<(), Ending>
+pub(crate) fn sign(args: &[Value], world: &LibWorld, results: &mut Vec<Value>) -> Result<(), Ending>
     requires world { IsWorld world.now }
     requires args { AllByRecursion (MayUseIn world.now) args.now }
     ensures { Runs world.now world.now results.old.items results.new.items result (math.of_number builtin.MathSign int_signum (map (meant world.now.names) args.now) (store_in world.now)) }
@@ -142,5 +138,8 @@ pub(crate) fn clamp(
     if is_less(high, low) {
         return Err(out_of_range(Builtin::MathClamp, 2));
     }
-    give(results, Value::Num(better(false, better(true, n, low), high)))
+    give(
+        results,
+        Value::Num(better(false, better(true, n, low), high)),
+    )
 }

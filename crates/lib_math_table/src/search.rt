@@ -12,11 +12,7 @@ use lib_arguments::{Ending, any_at, give, number_or, table_at};
 use luau_tables::LibWorld;
 use value_model::{Builtin, Value};
 
-pub(crate) fn find(
-    args: &[Value],
-    world: &LibWorld,
-    results: &mut Vec<Value>,
-) -> Result<(), Ending>
+pub(crate) fn find(args: &[Value], world: &LibWorld, results: &mut Vec<Value>) -> Result<(), Ending>
     requires world { IsWorld world.now }
     requires args { AllByRecursion (MayUseIn world.now) args.now }
     ensures { Runs world.now world.now results.old.items results.new.items result (table.find_row (map (meant world.now.names) args.now) (store_in world.now)) }

@@ -36,8 +36,22 @@ const FROZEN: Result<&[Arg], &str> = Err("attempt to modify a readonly table");
 
 const MATH: [Case; 17] = [
     (Builtin::MathAbs, &[], false, &[Num(-3)], Ok(&[Num(3)]), &[]),
-    (Builtin::MathAbs, &[], false, &[Text(" 0x10 ")], Ok(&[Num(16)]), &[]),
-    (Builtin::MathAbs, &[], false, &[Text("0.5")], Err("not whole"), &[]),
+    (
+        Builtin::MathAbs,
+        &[],
+        false,
+        &[Text(" 0x10 ")],
+        Ok(&[Num(16)]),
+        &[],
+    ),
+    (
+        Builtin::MathAbs,
+        &[],
+        false,
+        &[Text("0.5")],
+        Err("not whole"),
+        &[],
+    ),
     (
         Builtin::MathAbs,
         &[],
@@ -46,8 +60,22 @@ const MATH: [Case; 17] = [
         Err("missing argument #1 to 'abs' (number expected)"),
         &[],
     ),
-    (Builtin::MathCeil, &[], false, &[Num(-3)], Ok(&[Num(-3)]), &[]),
-    (Builtin::MathFloor, &[], false, &[Num(4)], Ok(&[Num(4)]), &[]),
+    (
+        Builtin::MathCeil,
+        &[],
+        false,
+        &[Num(-3)],
+        Ok(&[Num(-3)]),
+        &[],
+    ),
+    (
+        Builtin::MathFloor,
+        &[],
+        false,
+        &[Num(4)],
+        Ok(&[Num(4)]),
+        &[],
+    ),
     (
         Builtin::MathRound,
         &[],
@@ -56,9 +84,23 @@ const MATH: [Case; 17] = [
         Err("invalid argument #1 to 'round' (number expected, got boolean)"),
         &[],
     ),
-    (Builtin::MathSign, &[], false, &[Num(-9)], Ok(&[Num(-1)]), &[]),
+    (
+        Builtin::MathSign,
+        &[],
+        false,
+        &[Num(-9)],
+        Ok(&[Num(-1)]),
+        &[],
+    ),
     (Builtin::MathSign, &[], false, &[Num(0)], Ok(&[Num(0)]), &[]),
-    (Builtin::MathMax, &[], false, &[Num(1), Text("7"), Num(3)], Ok(&[Num(7)]), &[]),
+    (
+        Builtin::MathMax,
+        &[],
+        false,
+        &[Num(1), Text("7"), Num(3)],
+        Ok(&[Num(7)]),
+        &[],
+    ),
     (
         Builtin::MathMax,
         &[],
@@ -67,10 +109,38 @@ const MATH: [Case; 17] = [
         Err("invalid argument #3 to 'max' (number expected, got nil)"),
         &[],
     ),
-    (Builtin::MathMin, &[], false, &[Num(4), Num(-2), Num(3)], Ok(&[Num(-2)]), &[]),
-    (Builtin::MathClamp, &[], false, &[Num(5), Num(1), Num(3)], Ok(&[Num(3)]), &[]),
-    (Builtin::MathClamp, &[], false, &[Num(0), Num(1), Num(3)], Ok(&[Num(1)]), &[]),
-    (Builtin::MathClamp, &[], false, &[Num(2), Num(2), Num(2)], Ok(&[Num(2)]), &[]),
+    (
+        Builtin::MathMin,
+        &[],
+        false,
+        &[Num(4), Num(-2), Num(3)],
+        Ok(&[Num(-2)]),
+        &[],
+    ),
+    (
+        Builtin::MathClamp,
+        &[],
+        false,
+        &[Num(5), Num(1), Num(3)],
+        Ok(&[Num(3)]),
+        &[],
+    ),
+    (
+        Builtin::MathClamp,
+        &[],
+        false,
+        &[Num(0), Num(1), Num(3)],
+        Ok(&[Num(1)]),
+        &[],
+    ),
+    (
+        Builtin::MathClamp,
+        &[],
+        false,
+        &[Num(2), Num(2), Num(2)],
+        Ok(&[Num(2)]),
+        &[],
+    ),
     (
         Builtin::MathClamp,
         &[],
@@ -189,10 +259,31 @@ const EDITS: [Case; 20] = [
     ),
     (Builtin::TableRemove, &[], false, &[This], Ok(&[Nil]), &[]),
     (Builtin::TableRemove, &[], true, &[This], FROZEN, &[]),
-    (Builtin::TableClear, &[Num(1), Yes], false, &[This], Ok(&[]), &[]),
+    (
+        Builtin::TableClear,
+        &[Num(1), Yes],
+        false,
+        &[This],
+        Ok(&[]),
+        &[],
+    ),
     (Builtin::TableClear, &[], true, &[This], FROZEN, &[]),
-    (Builtin::TableFreeze, &[Num(1)], false, &[This], Ok(&[This]), &[Num(1)]),
-    (Builtin::TableIsfrozen, &[Num(1)], true, &[This], Ok(&[Yes]), &[Num(1)]),
+    (
+        Builtin::TableFreeze,
+        &[Num(1)],
+        false,
+        &[This],
+        Ok(&[This]),
+        &[Num(1)],
+    ),
+    (
+        Builtin::TableIsfrozen,
+        &[Num(1)],
+        true,
+        &[This],
+        Ok(&[Yes]),
+        &[Num(1)],
+    ),
     (
         Builtin::TableClone,
         &[Num(1), Nil, Num(3)],
@@ -220,7 +311,14 @@ const LISTS: [Case; 24] = [
         Ok(&[Text("b0c")]),
         &[Text("a"), Text("b"), Text("c")],
     ),
-    (Builtin::TableConcat, &[], false, &[This, Text("x"), Num(5)], Ok(&[Text("")]), &[]),
+    (
+        Builtin::TableConcat,
+        &[],
+        false,
+        &[This, Text("x"), Num(5)],
+        Ok(&[Text("")]),
+        &[],
+    ),
     (
         Builtin::TableConcat,
         &[Text("a"), Yes],
@@ -237,7 +335,14 @@ const LISTS: [Case; 24] = [
         Ok(&[Num(1), Nil, Num(3), Nil]),
         &[Num(1), Nil, Num(3)],
     ),
-    (Builtin::TableUnpack, &[Num(1), Nil], false, &[This], Ok(&[Num(1)]), &[Num(1)]),
+    (
+        Builtin::TableUnpack,
+        &[Num(1), Nil],
+        false,
+        &[This],
+        Ok(&[Num(1)]),
+        &[Num(1)],
+    ),
     (
         Builtin::TableUnpack,
         &[],
@@ -254,9 +359,30 @@ const LISTS: [Case; 24] = [
         Ok(&[Nil]),
         &[],
     ),
-    (Builtin::TablePack, &[], false, &[Nil, Yes], Ok(&[New]), &[Nil, Yes]),
-    (Builtin::TableCreate, &[], false, &[Num(3), Yes], Ok(&[New]), &[Yes, Yes, Yes]),
-    (Builtin::TableCreate, &[], false, &[Num(-1), Yes], Ok(&[New]), &[]),
+    (
+        Builtin::TablePack,
+        &[],
+        false,
+        &[Nil, Yes],
+        Ok(&[New]),
+        &[Nil, Yes],
+    ),
+    (
+        Builtin::TableCreate,
+        &[],
+        false,
+        &[Num(3), Yes],
+        Ok(&[New]),
+        &[Yes, Yes, Yes],
+    ),
+    (
+        Builtin::TableCreate,
+        &[],
+        false,
+        &[Num(-1), Yes],
+        Ok(&[New]),
+        &[],
+    ),
     (
         Builtin::TableCreate,
         &[],
@@ -265,7 +391,14 @@ const LISTS: [Case; 24] = [
         Err("too many values"),
         &[],
     ),
-    (Builtin::TableCreate, &[], false, &[Num(16_777_216)], Ok(&[New]), &[]),
+    (
+        Builtin::TableCreate,
+        &[],
+        false,
+        &[Num(16_777_216)],
+        Ok(&[New]),
+        &[],
+    ),
     (
         Builtin::TableFind,
         &[Num(1), Text("1"), Num(1)],
@@ -472,7 +605,11 @@ fn text(names: &Interner, answer: &LibAnswer, out: &mut Vec<u8>) -> Result<(), O
     }
 }
 
-fn try_case(rt: &(impl Abort + AllocGlobal), world: &mut LibWorld, case: &Case) -> Result<(), Fail> {
+fn try_case(
+    rt: &(impl Abort + AllocGlobal),
+    world: &mut LibWorld,
+    case: &Case,
+) -> Result<(), Fail> {
     let this = made(rt, world, case.1, case.2)?;
     let args = values(rt, &mut world.names, &this, case.3)?;
     let mut results = Vec::new(rt.alloc());

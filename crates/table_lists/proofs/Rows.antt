@@ -1,5 +1,5 @@
 -- Elements in a row, read and written one after another.
-use Rattle.std.proofs.Common.{◌≡◌, ◌≢◌, ℕ, zero, suc, ◌+◌, ◌≤◌, ℤ, pos, ◌+ℤ◌, false, true, List, [], ◌∷◌, ◌++◌, length, take, Bool, refl, sym, ◌∙◌, ap, arith, add-one, ◌<◌, get_or, Result, Ok, Err, OnErr, subst}
+use Rattle.std.proofs.Common.{◌≡◌, ℕ, zero, suc, ◌+◌, ◌≤◌, ℤ, pos, ◌+ℤ◌, false, true, List, [], ◌∷◌, ◌++◌, length, take, Bool, refl, sym, ◌∙◌, ap, arith, add-one, ◌<◌, get_or, Result, Ok, Err, OnErr, subst}
 use Rattle.std.specs.Prelude.{◌≤ℤ◌}
 use Rattle.std.proofs.lemmas.Int.{ints}
 use Rattle.std.proofs.lemmas.List.{take_more, length-take-le, length-replicate}

@@ -1,10 +1,9 @@
 -- Steps of a search.
-use Rattle.std.proofs.Common.{◌≡◌, ℕ, zero, suc, ◌+◌, ◌-◌, ◌<◌, ℤ, pos, ◌+ℤ◌, true, false, cond, Some, None, refl, sym, ◌∙◌, ap, subst, arith}
+use Rattle.std.proofs.Common.{◌≡◌, ℕ, suc, ◌+◌, ◌-◌, ◌<◌, ℤ, pos, ◌+ℤ◌, true, false, cond, Some, None, sym, ◌∙◌, ap, arith}
 use Rattle.std.proofs.lemmas.Int.{ints}
 use Rattle.value_model.specs.declared.value.Value.{Value}
 use Rattle.value_arena.specs.Tables.{TableView, same, is_nil}
 use Rattle.table_lists.specs.Lists.{item, found}
-
 
 -- what is sought among more than have been looked at
 one_more : (n i : ℕ) → i < n → n - i ≡ suc (n - (i + 1))

@@ -1,10 +1,9 @@
 -- Tables as lists: the elements under numbers, on values as a program keeps them.
-use Rattle.std.specs.Prelude.{◌≡◌, ℕ, zero, suc, ◌^◌, ℤ, pos, neg_ℤ, ◌+ℤ◌, ◌-ℤ◌, not, List, [], ◌∷◌, map, filter, take, cond, Option, Some, None}
+use Rattle.std.specs.Prelude.{◌≡◌, ℕ, zero, suc, ℤ, pos, ◌+ℤ◌, not, List, [], ◌∷◌, map, filter, take, cond, Option, Some, None}
 use Rattle.value_model.specs.Pairs as pairs
-use Rattle.value_model.specs.StringRows as model
 use Rattle.value_model.specs.declared.value.Value.{Value}
 use Rattle.value_model.specs.declared.value.Value.TheVariants.{Nil, Num}
-use Rattle.value_arena.specs.Tables.{Entries, TableView, same, is_nil, number, value_in}
+use Rattle.value_arena.specs.Tables.{Entries, TableView, same, is_nil, number}
 use Rattle.luau_tables.specs.Rules as rule
 
 -- ---- elements

@@ -15,7 +15,12 @@ use value_model::Value;
 use whole_num::Whole;
 
 /// The values under so many numbers from one on.
-pub fn items(alloc: Global, table: &Table, first: Whole, count: usize) -> Result<Vec<Value>, OutOfMemory>
+pub fn items(
+    alloc: Global,
+    table: &Table,
+    first: Whole,
+    count: usize,
+) -> Result<Vec<Value>, OutOfMemory>
     requires { (first +ℤ pos count) ≤ℤ pos (2 ^ 53 + 1) }
     ensures { IfOk result (λ vs. vs.items ≡ items table.now first count) }
 {

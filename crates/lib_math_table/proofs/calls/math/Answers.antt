@@ -3,6 +3,7 @@ use Rattle.luau_tables.specs.Worlds.{store_in}
 use Rattle.value_model.specs.Library.{lib}
 use Rattle.value_model.specs.Parts.{meant}
 use Rattle.lib_arguments.specs.Rows.{Runs}
+use Rattle.lib_math_table.proofs.Functions.{no_math}
 use Rattle.lib_math_table.proofs.calls.math.Goals as goal
 
 pub returns-in-MathAbs : goal.returns-in-MathAbs
@@ -21,13 +22,13 @@ pub returns-in-MathFloor : goal.returns-in-MathFloor
 unfolding lib
 returns-in-MathFloor c =
     let w = c.args.world.now in
-    subst (λ f. Runs w w c.args.results.now.items c.whole-2.new.results.items c.whole-2.result (lib f (map (meant w.names) c.args.args.now) (store_in w))) (sym c.in-MathFloor.is) c.whole-2.ensures
+    subst (λ f. Runs w w c.args.results.now.items c.whole-in-MathFloor.new.results.items c.whole-in-MathFloor.result (lib f (map (meant w.names) c.args.args.now) (store_in w))) (sym c.in-MathFloor.is) c.whole-in-MathFloor.ensures
 
 pub returns-in-MathRound : goal.returns-in-MathRound
 unfolding lib
 returns-in-MathRound c =
     let w = c.args.world.now in
-    subst (λ f. Runs w w c.args.results.now.items c.whole-3.new.results.items c.whole-3.result (lib f (map (meant w.names) c.args.args.now) (store_in w))) (sym c.in-MathRound.is) c.whole-3.ensures
+    subst (λ f. Runs w w c.args.results.now.items c.whole-in-MathRound.new.results.items c.whole-in-MathRound.result (lib f (map (meant w.names) c.args.args.now) (store_in w))) (sym c.in-MathRound.is) c.whole-in-MathRound.ensures
 
 pub returns-in-MathSign : goal.returns-in-MathSign
 unfolding lib
@@ -45,10 +46,13 @@ pub returns-in-MathMin : goal.returns-in-MathMin
 unfolding lib
 returns-in-MathMin c =
     let w = c.args.world.now in
-    subst (λ f. Runs w w c.args.results.now.items c.best-2.new.results.items c.best-2.result (lib f (map (meant w.names) c.args.args.now) (store_in w))) (sym c.in-MathMin.is) c.best-2.ensures
+    subst (λ f. Runs w w c.args.results.now.items c.best-in-MathMin.new.results.items c.best-in-MathMin.result (lib f (map (meant w.names) c.args.args.now) (store_in w))) (sym c.in-MathMin.is) c.best-in-MathMin.ensures
 
 pub returns-in-MathClamp : goal.returns-in-MathClamp
 unfolding lib
 returns-in-MathClamp c =
     let w = c.args.world.now in
     subst (λ f. Runs w w c.args.results.now.items c.clamp.new.results.items c.clamp.result (lib f (map (meant w.names) c.args.args.now) (store_in w))) (sym c.in-MathClamp.is) c.clamp.ensures
+
+pub unreachable-requires : goal.unreachable-requires
+unreachable-requires c = no_math c.args.builtin c.requires.builtin c.in_default.not-MathAbs c.in_default.not-MathCeil c.in_default.not-MathFloor c.in_default.not-MathRound c.in_default.not-MathSign c.in_default.not-MathMax c.in_default.not-MathMin c.in_default.not-MathClamp

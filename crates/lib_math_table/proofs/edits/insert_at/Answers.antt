@@ -12,7 +12,6 @@ use Rattle.lib_math_table.proofs.Changes.{with_changed}
 use Rattle.lib_math_table.proofs.Inserting.{insert_out, insert_frozen, insert_stops, insert_is, insert_keeps, began_keeps, items_used, sum_is, sum_fits}
 use Rattle.lib_math_table.proofs.edits.insert_at.Goals as goal
 
-
 pub returns-then-not-is_place-clause-runs : goal.returns-then-not-is_place-clause-runs
 returns-then-not-is_place-clause-runs c rs =
     let w = c.args.world.now in

@@ -19,9 +19,9 @@ returns-in-Ok-put_all_and-clause-runs c =
     let now = made.is_new w c.new_table.new.self c.in-Ok.t c.in-Ok.ensures.made c.in-Ok.ensures.id c.in-Ok.ensures.there in
     let x : TableView = rule.put (put_all no_table (pos 1) vs) (Str c.args.n) (Num z) in
     let is : c.put_all_and.new.table ≡ x =
-        c.in-Ok-put_all_and.ensures.ok
-        ∙ ap (λ t. rule.put (put_all t c.one.result vs) (Str c.args.n) (Num z)) (c.table_mut.ensures.value ∙ now)
-        ∙ ap (λ k. rule.put (put_all no_table k vs) (Str c.args.n) (Num z)) c.one.ensures in
+    c.in-Ok-put_all_and.ensures.ok
+    ∙ ap (λ t. rule.put (put_all t c.one.result vs) (Str c.args.n) (Num z)) (c.table_mut.ensures.value ∙ now)
+    ∙ ap (λ k. rule.put (put_all no_table k vs) (Str c.args.n) (Num z)) c.one.ensures in
     made.made_at w c.requires.world c.new_table.new.self c.in-Ok.t c.put_all_and.new.table x _ _ _ c.give.result c.in-Ok.ensures.made c.in-Ok.ensures.id c.in-Ok.ensures.there is
     (made.packed_keeps w c.requires.world there c.args.n vs z c.requires.n c.requires.values c.in-Some.ensures.count)
     (made.packed_is w c.requires.world there c.args.n vs z c.requires.n c.requires.values c.in-Some.ensures.count) c.give.ensures
@@ -35,9 +35,9 @@ returns-in-Ok-put_all_and-clause-keeps c =
     let now = made.is_new w c.new_table.new.self c.in-Ok.t c.in-Ok.ensures.made c.in-Ok.ensures.id c.in-Ok.ensures.there in
     let x : TableView = rule.put (put_all no_table (pos 1) vs) (Str c.args.n) (Num z) in
     let is : c.put_all_and.new.table ≡ x =
-        c.in-Ok-put_all_and.ensures.ok
-        ∙ ap (λ t. rule.put (put_all t c.one.result vs) (Str c.args.n) (Num z)) (c.table_mut.ensures.value ∙ now)
-        ∙ ap (λ k. rule.put (put_all no_table k vs) (Str c.args.n) (Num z)) c.one.ensures in
+    c.in-Ok-put_all_and.ensures.ok
+    ∙ ap (λ t. rule.put (put_all t c.one.result vs) (Str c.args.n) (Num z)) (c.table_mut.ensures.value ∙ now)
+    ∙ ap (λ k. rule.put (put_all no_table k vs) (Str c.args.n) (Num z)) c.one.ensures in
     made.kept_at w c.requires.world c.new_table.new.self c.in-Ok.t c.put_all_and.new.table x c.in-Ok.ensures.made c.in-Ok.ensures.id is
     (made.packed_keeps w c.requires.world there c.args.n vs z c.requires.n c.requires.values c.in-Some.ensures.count)
 

@@ -1,8 +1,8 @@
-use Rattle.std.proofs.Common.{◌≡◌, ◌∙◌, length, arith, refl, sym, ap}
+use Rattle.std.proofs.Common.{◌≡◌, ◌∙◌, length, arith, sym, ap}
 use Rattle.indexmap.specs.IndexMap.{set_value_at}
 use Rattle.value_model.specs.declared.value.Value.TheVariants.{Nil}
 use Rattle.value_arena.specs.Tables.{Entries, TableView}
-use Rattle.table_lists.proofs.Wholes.{cleared_front, front_none, front_more, front_length, front_all}
+use Rattle.table_lists.proofs.Wholes.{front_none, front_more, front_length, front_all}
 use Rattle.table_lists.proofs.copy.clear.Goals as goal
 
 abbrev with_entries : TableView → Entries → TableView

@@ -1,5 +1,4 @@
-use Rattle.std.proofs.Common.{◌≡◌, ◌∙◌, ◌<◌, ◌∷◌, [], ◌++◌, length, true, false, arith, sym, ap}
-use Rattle.value_arena.specs.Tables.{is_nil}
+use Rattle.std.proofs.Common.{◌∙◌, ◌<◌, ◌∷◌, [], ◌++◌, length, true, false, arith, sym, ap}
 use Rattle.table_lists.proofs.Wholes.{filled_more, filled_all}
 use Rattle.table_lists.proofs.copy.entries.Goals as goal
 use Rattle.table_lists.proofs.copy.entries.Goals.{then-not-is_nil+in_ok-push, else-not-is_nil}

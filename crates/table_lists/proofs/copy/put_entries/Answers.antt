@@ -1,4 +1,4 @@
-use Rattle.std.proofs.Common.{◌≡◌, ◌∙◌, false, arith}
+use Rattle.std.proofs.Common.{◌≡◌, ◌∙◌, false}
 use Rattle.value_arena.specs.Tables.{is_nil}
 use Rattle.table_lists.proofs.Rows.{on_err}
 use Rattle.table_lists.proofs.Wholes.{pairs_step, key_at}

@@ -1,4 +1,4 @@
-use Rattle.std.proofs.Common.{◌∙◌, arith, refl, ap}
+use Rattle.std.proofs.Common.{◌∙◌, arith, refl}
 use Rattle.std.proofs.lemmas.Int.{ints}
 use Rattle.table_lists.proofs.Rows.{put_none, put_listed, began, on_err}
 use Rattle.table_lists.proofs.range.put_all.Goals as goal

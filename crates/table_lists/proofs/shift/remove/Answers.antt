@@ -1,4 +1,4 @@
-use Rattle.std.proofs.Common.{◌≡◌, arith}
+use Rattle.std.proofs.Common.{arith}
 use Rattle.std.proofs.lemmas.Int.{ints}
 use Rattle.table_lists.proofs.Rows.{began_remove}
 use Rattle.table_lists.proofs.shift.remove.Goals as goal

@@ -1,4 +1,4 @@
-use Rattle.std.proofs.Common.{◌∙◌, arith, refl, sym, pos, ◌+ℤ◌, ap}
+use Rattle.std.proofs.Common.{◌∙◌, arith, pos, ◌+ℤ◌}
 use Rattle.std.proofs.lemmas.Int.{ints}
 use Rattle.table_lists.proofs.Rows.{put_none, put_item, began, on_err, first_items, item_past}
 use Rattle.table_lists.proofs.shift.shift_down.Goals as goal

@@ -1,6 +1,4 @@
 use Rattle.std.proofs.Common.{◌≡◌, pos, ◌+ℤ◌}
-use Rattle.value_model.specs.declared.value.Value.{Value}
-use Rattle.value_arena.specs.Tables.{TableView}
 use Rattle.table_lists.specs.Lists.{item, items, put_all}
 use Rattle.table_lists.proofs.shift.shift_up.Given as goal
 

@@ -1,0 +1,29 @@
+-- A function is one of those that are named.
+use Rattle.std.proofs.Common.{◌≡◌, refl}
+use Rattle.value_model.specs.declared.builtin.Builtin.{Builtin}
+use Rattle.value_model.specs.declared.builtin.Builtin.TheVariants as builtin
+use Rattle.lib_math_table.specs.Builtins.{IsMath, IsPlainTable}
+
+pub no_math : (f : Builtin) → IsMath f → (f ≡ builtin.MathAbs → ⊥) → (f ≡ builtin.MathCeil → ⊥) → (f ≡ builtin.MathFloor → ⊥) → (f ≡ builtin.MathRound → ⊥) → (f ≡ builtin.MathSign → ⊥) → (f ≡ builtin.MathMax → ⊥) → (f ≡ builtin.MathMin → ⊥) → (f ≡ builtin.MathClamp → ⊥) → ⊥
+no_math builtin.MathAbs h n0 n1 n2 n3 n4 n5 n6 n7 = n0 refl
+no_math builtin.MathCeil h n0 n1 n2 n3 n4 n5 n6 n7 = n1 refl
+no_math builtin.MathFloor h n0 n1 n2 n3 n4 n5 n6 n7 = n2 refl
+no_math builtin.MathRound h n0 n1 n2 n3 n4 n5 n6 n7 = n3 refl
+no_math builtin.MathSign h n0 n1 n2 n3 n4 n5 n6 n7 = n4 refl
+no_math builtin.MathMax h n0 n1 n2 n3 n4 n5 n6 n7 = n5 refl
+no_math builtin.MathMin h n0 n1 n2 n3 n4 n5 n6 n7 = n6 refl
+no_math builtin.MathClamp h n0 n1 n2 n3 n4 n5 n6 n7 = n7 refl
+no_math _ h n0 n1 n2 n3 n4 n5 n6 n7 = h
+
+pub no_plain : (f : Builtin) → IsPlainTable f → (f ≡ builtin.TableInsert → ⊥) → (f ≡ builtin.TableRemove → ⊥) → (f ≡ builtin.TableUnpack → ⊥) → (f ≡ builtin.TablePack → ⊥) → (f ≡ builtin.TableCreate → ⊥) → (f ≡ builtin.TableFind → ⊥) → (f ≡ builtin.TableClear → ⊥) → (f ≡ builtin.TableFreeze → ⊥) → (f ≡ builtin.TableIsfrozen → ⊥) → (f ≡ builtin.TableMove → ⊥) → ⊥
+no_plain builtin.TableInsert h n0 n1 n2 n3 n4 n5 n6 n7 n8 n9 = n0 refl
+no_plain builtin.TableRemove h n0 n1 n2 n3 n4 n5 n6 n7 n8 n9 = n1 refl
+no_plain builtin.TableUnpack h n0 n1 n2 n3 n4 n5 n6 n7 n8 n9 = n2 refl
+no_plain builtin.TablePack h n0 n1 n2 n3 n4 n5 n6 n7 n8 n9 = n3 refl
+no_plain builtin.TableCreate h n0 n1 n2 n3 n4 n5 n6 n7 n8 n9 = n4 refl
+no_plain builtin.TableFind h n0 n1 n2 n3 n4 n5 n6 n7 n8 n9 = n5 refl
+no_plain builtin.TableClear h n0 n1 n2 n3 n4 n5 n6 n7 n8 n9 = n6 refl
+no_plain builtin.TableFreeze h n0 n1 n2 n3 n4 n5 n6 n7 n8 n9 = n7 refl
+no_plain builtin.TableIsfrozen h n0 n1 n2 n3 n4 n5 n6 n7 n8 n9 = n8 refl
+no_plain builtin.TableMove h n0 n1 n2 n3 n4 n5 n6 n7 n8 n9 = n9 refl
+no_plain _ h n0 n1 n2 n3 n4 n5 n6 n7 n8 n9 = h
