@@ -1,10 +1,17 @@
-use crate::world::{answer_into, world};
+ghost use Rattle.std.specs.Prelude.{IsTrue, IfOk};
+ghost use Rattle.lib_core.specs.Builtins.{IsAsker, IsCore};
+ghost use Rattle.luau_tables.specs.Answers.{MayAnswer};
+ghost use Rattle.luau_tables.specs.Worlds.{IsWorld, Keeps, MayUseIn};
+ghost use Rattle.value_model.specs.declared.value.Value.TheVariants.{Table};
+
+use first_world::{add_table, first_world};
+use lib_arguments::text_value;
 use lib_core::{call, go_on};
-use luau_tables::{LibAnswer, LibWorld};
+use luau_tables::{LibAnswer, LibWorld, plain_into};
 use std::process::Abort;
 use std::test::Fail;
-use value_model::{Builtin, ShortOwner, TableId, Value};
-use whole_num::Whole;
+use value_model::{Builtin, TableId, Value};
+use whole_num::{Stop, Whole};
 
 // An argument.
 #[derive(Clone, Copy)]
@@ -16,7 +23,7 @@ enum Given {
     Number(i64),
     Text(&'static str),
     Function(Builtin),
-    // the first two tables of the script, and the global table, which is frozen
+    // two tables of the script, and the global table, which is frozen
     First,
     Second,
     Global,
@@ -437,124 +444,136 @@ const ROWS: [(Builtin, Given, Given, Given, &str); 97] = [
     ),
 ];
 
-// The value of an argument, where it is there.
-fn value_of(given: &Given, world: &mut LibWorld) -> Result<Option<Value>, Fail> {
+// The value of an argument.
+fn value_of(
+    given: &Given,
+    world: &mut LibWorld,
+    first: TableId,
+    second: TableId,
+) -> Result<Value, Fail>
+    requires world { IsWorld world.old }
+    requires first { MayUseIn world.old (Table first) }
+    requires second { MayUseIn world.old (Table second) }
+    ensures usable { IfOk result (MayUseIn world.new) }
+    ensures keeps { Keeps world.old world.new }
+{
     Ok(match given {
-        Nothing => None,
-        Nil => Some(Value::Nil),
-        False => Some(Value::Bool(false)),
-        True => Some(Value::Bool(true)),
-        Number(n) => Some(Value::Num(Whole::new(*n).ok_or("out of range")?)),
-        Text(text) => Some(Value::Str(world.names.intern(text.as_bytes())?)),
-        Function(builtin) => Some(Value::Native(*builtin)),
-        First => Some(Value::Table(own(0))),
-        Second => Some(Value::Table(own(1))),
-        Global => Some(Value::Table(world.globals.table)),
+        Nothing | Nil => Value::Nil,
+        False => Value::Bool(false),
+        True => Value::Bool(true),
+        Number(n) => Value::Num(Whole::new(*n).ok_or("out of range")?),
+        Text(text) => Value::Str(text_value(&mut world.names, text.as_bytes())?),
+        Function(builtin) => Value::Native(*builtin),
+        First => Value::Table(first),
+        Second => Value::Table(second),
+        Global => Value::Table(world.globals.table),
     })
 }
 
-fn own(place: u32) -> TableId {
-    TableId {
-        owner: ShortOwner::Script(0),
-        place,
-    }
-}
-
-// The text of what a row's call gives.
-fn text_of(
-    rt: &impl AllocGlobal,
-    row: &(Builtin, Given, Given, Given, &str),
-    world: &mut LibWorld,
-) -> Result<Vec<u8>, Fail> {
-    let mut args = Vec::new(rt.alloc());
-    for given in &[row.1, row.2, row.3] {
-        if let Some(value) = value_of(given, world)? {
-            args.push(value)?;
+// Appends what a call gave: the texts of its values, each behind a blank; the line of a `print`, the text of a run error or of a
+// value that is raised, a stop, or the value that is to be called.
+fn answer_into(
+    answer: &LibAnswer,
+    results: &[Value],
+    world: &LibWorld,
+    out: &mut Vec<u8>,
+) -> Result<(), Fail>
+    requires { MayAnswer world.now answer.now }
+{
+    match answer {
+        LibAnswer::Values => {
+            for value in results {
+                out.push(b' ')?;
+                plain_into(&world.arena, &world.names, &world.globals, *value, out)?;
+            }
         }
-    }
-    let mut results = Vec::new(rt.alloc());
-    let answer = call(rt.alloc(), row.0, args.as_slice(), world, &mut results)?;
-    let mut out = Vec::new(rt.alloc());
-    answer_into(&answer, results.as_slice(), world, &mut out)?;
-    Ok(out)
-}
-
-#[test]
-fn rows(rt: HostRuntime) -> Result<(), Fail> {
-    let mut world = world(&rt)?;
-    let _first = world.arena.new_table(world.owner)?;
-    let _second = world.arena.new_table(world.owner)?;
-    for row in &ROWS {
-        let text = text_of(&rt, row, &mut world)?;
-        assert_eq!(rt; text.as_slice(), row.4.as_bytes());
+        LibAnswer::Print(line) => {
+            out.extend_from_slice(b"line ")?;
+            out.extend_from_slice(line.as_slice())?;
+        }
+        LibAnswer::RunError(error) => error.text_into(&world.names, out)?,
+        LibAnswer::Raise(value) => {
+            out.extend_from_slice(b"raise ")?;
+            plain_into(&world.arena, &world.names, &world.globals, *value, out)?;
+        }
+        LibAnswer::Stop(Stop::NotWhole) => out.extend_from_slice(b"stop not whole")?,
+        LibAnswer::Stop(Stop::OutOfRange) => out.extend_from_slice(b"stop out of range")?,
+        LibAnswer::CallBack {
+            callee,
+            args: _,
+            then: _,
+        } => {
+            out.extend_from_slice(b"call ")?;
+            plain_into(&world.arena, &world.names, &world.globals, *callee, out)?;
+        }
     }
     Ok(())
 }
 
-// What `print` or `tostring` gives, which asks a handler, once that has given a value.
-fn text_behind(
-    rt: &impl AllocGlobal,
-    builtin: Builtin,
-    given: &Given,
-    world: &mut LibWorld,
-) -> Result<Vec<u8>, Fail> {
-    let args = Vec::from_slice(
-        rt.alloc(),
-        &[Value::Bool(true), Value::Table(own(0)), Value::Nil],
-    )?;
-    let args = match builtin {
-        Builtin::Print => args,
-        _ => Vec::from_slice(rt.alloc(), &[Value::Table(own(0))])?,
-    };
-    let value = value_of(given, world)?.unwrap_or(Value::Nil);
-    let mut results = Vec::new(rt.alloc());
-    let mut out = Vec::new(rt.alloc());
-    let answer = call(rt.alloc(), builtin, args.as_slice(), world, &mut results)?;
-    if let LibAnswer::CallBack {
-        callee: _,
-        args: _,
-        then,
-    } = answer
-    {
-        let answer = go_on(rt.alloc(), then, value, world, &mut results)?;
-        answer_into(&answer, results.as_slice(), world, &mut out)?;
+// Whether a function is one of those that are tested here.
+fn is_core(builtin: Builtin) -> bool
+    ensures { IsTrue result → IsCore builtin }
+{
+    match builtin {
+        Builtin::Print => true,
+        Builtin::Tostring => true,
+        Builtin::Assert => true,
+        Builtin::Error => true,
+        Builtin::Rawset => true,
+        Builtin::Setmetatable => true,
+        Builtin::Type => true,
+        Builtin::Typeof => true,
+        Builtin::Tonumber => true,
+        Builtin::Select => true,
+        Builtin::Next => true,
+        Builtin::Pairs => true,
+        Builtin::Ipairs => true,
+        Builtin::IpairsIterator => true,
+        Builtin::Rawget => true,
+        Builtin::Rawequal => true,
+        Builtin::Rawlen => true,
+        Builtin::Getmetatable => true,
+        _ => false,
     }
-    Ok(out)
+}
+
+// Appends what a row's call gives.
+fn row_into(
+    rt: &impl AllocGlobal,
+    row: &(Builtin, Given, Given, Given, &str),
+    world: &mut LibWorld,
+    first: TableId,
+    second: TableId,
+    out: &mut Vec<u8>,
+) -> Result<(), Fail>
+    requires core { IsCore row.now.0 }
+    requires world { IsWorld world.old }
+    requires first { MayUseIn world.old (Table first) }
+    requires second { MayUseIn world.old (Table second) }
+    ensures { Keeps world.old world.new }
+{
+    let mut args = Vec::new(rt.alloc());
+    for given in &[row.1, row.2, row.3] {
+        match given {
+            Nothing => {}
+            given => args.push(value_of(given, world, first, second)?)?,
+        }
+    }
+    let mut results = Vec::new(rt.alloc());
+    let answer = call(rt.alloc(), row.0, args.as_slice(), world, &mut results)?;
+    answer_into(&answer, results.as_slice(), world, out)
 }
 
 #[test]
-fn handlers(rt: HostRuntime) -> Result<(), Fail> {
-    let mut world = world(&rt)?;
-    let _first = world.arena.new_table(world.owner)?;
-    let _second = world.arena.new_table(world.owner)?;
-    for row in &[
-        (
-            Builtin::Rawset,
-            Second,
-            Text("__tostring"),
-            Function(Builtin::Type),
-            "",
-        ),
-        (Builtin::Setmetatable, First, Second, Nothing, ""),
-    ] {
-        let _text = text_of(&rt, row, &mut world)?;
-    }
-    for (builtin, given, want) in &[
-        (Builtin::Print, Text("x"), "line true\tx\tnil"),
-        (
-            Builtin::Print,
-            Number(1),
-            "'__tostring' must return a string",
-        ),
-        (Builtin::Tostring, Text("x"), " x"),
-        (
-            Builtin::Tostring,
-            Nothing,
-            "'__tostring' must return a string",
-        ),
-    ] {
-        let text = text_behind(&rt, *builtin, given, &mut world)?;
-        assert_eq!(rt; text.as_slice(), want.as_bytes());
+fn rows(rt: HostRuntime) -> Result<(), Fail> {
+    let mut world = first_world(rt.alloc())?;
+    let first = add_table(&mut world)?;
+    let second = add_table(&mut world)?;
+    for row in &ROWS {
+        let mut text = Vec::new(rt.alloc());
+        assert!(rt; is_core(row.0));
+        row_into(&rt, row, &mut world, first, second, &mut text)?;
+        assert_eq!(rt; text.as_slice(), row.4.as_bytes());
     }
     Ok(())
 }
