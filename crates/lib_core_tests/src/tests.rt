@@ -2,6 +2,7 @@ ghost use Rattle.std.specs.Prelude.{IsTrue, IfOk};
 ghost use Rattle.lib_core.specs.Builtins.{IsAsker, IsCore};
 ghost use Rattle.luau_tables.specs.Answers.{MayAnswer};
 ghost use Rattle.luau_tables.specs.Worlds.{IsWorld, Keeps, MayUseIn};
+ghost use Rattle.luau_tables.specs.declared.globals.LibWorld.{LibWorld};
 ghost use Rattle.value_model.specs.declared.value.Value.TheVariants.{Table};
 
 use first_world::{add_table, first_world};
@@ -457,17 +458,35 @@ fn value_of(
     ensures usable { IfOk result (MayUseIn world.new) }
     ensures keeps { Keeps world.old world.new }
 {
-    Ok(match given {
-        Nothing | Nil => Value::Nil,
-        False => Value::Bool(false),
-        True => Value::Bool(true),
-        Number(n) => Value::Num(Whole::new(*n).ok_or("out of range")?),
-        Text(text) => Value::Str(text_value(&mut world.names, text.as_bytes())?),
-        Function(builtin) => Value::Native(*builtin),
-        First => Value::Table(first),
-        Second => Value::Table(second),
-        Global => Value::Table(world.globals.table),
-    })
+    match given {
+        Nothing | Nil => Ok(Value::Nil),
+        False => Ok(Value::Bool(false)),
+        True => Ok(Value::Bool(true)),
+        Number(n) => whole(*n),
+        Text(text) => text_value_of(text, world),
+        Function(builtin) => Ok(Value::Native(*builtin)),
+        First => Ok(Value::Table(first)),
+        Second => Ok(Value::Table(second)),
+        Global => Ok(Value::Table(world.globals.table)),
+    }
+}
+
+// A number.
+fn whole(n: i64) -> Result<Value, Fail>
+    ensures { IfOk result (λ v. (w : LibWorld) → MayUseIn w v) }
+{
+    let number = Whole::new(n).ok_or("out of range")?;
+    Ok(Value::Num(number))
+}
+
+// A text.
+fn text_value_of(text: &str, world: &mut LibWorld) -> Result<Value, Fail>
+    requires { IsWorld world.old }
+    ensures usable { IfOk result (MayUseIn world.new) }
+    ensures keeps { Keeps world.old world.new }
+{
+    let id = text_value(&mut world.names, text.as_bytes())?;
+    Ok(Value::Str(id))
 }
 
 // Appends what a call gave: the texts of its values, each behind a blank; the line of a `print`, the text of a run error or of a
@@ -556,7 +575,10 @@ fn row_into(
     for given in &[row.1, row.2, row.3] {
         match given {
             Nothing => {}
-            given => args.push(value_of(given, world, first, second)?)?,
+            given => {
+                let value = value_of(given, world, first, second)?;
+                args.push(value)?;
+            }
         }
     }
     let mut results = Vec::new(rt.alloc());
