@@ -1,11 +1,10 @@
 -- What a library function goes on with that asked for a text.
-use Rattle.std.proofs.Common.{◌≡◌, ℕ, suc, List, [], ◌∷◌, ◌++◌, map, drop, Result, refl, sym, ◌∙◌, ap}
+use Rattle.std.proofs.Common.{◌≡◌, ℕ, suc, List, [], ◌∷◌, ◌++◌, map, drop, Result, refl, ◌∙◌, ap}
 use Rattle.value_model.specs.Answers as answer
 use Rattle.value_model.specs.CoreRows as core
 use Rattle.value_model.specs.Errors as error
 use Rattle.value_model.specs.Library.{go_on, goes_on}
 use Rattle.value_model.specs.Parts.{bytes_at, meant, meant_error}
-use Rattle.value_model.specs.Values as m
 use Rattle.value_model.specs.Values.{Bytes}
 use Rattle.value_model.specs.declared.builtin.Builtin.{Builtin}
 use Rattle.value_model.specs.declared.builtin.Builtin.TheVariants as builtin

@@ -1,6 +1,6 @@
 -- Metatables and what they say, as they are kept and as they are meant.
-use Rattle.std.proofs.Common.{◌≡◌, ℕ, ◌<◌, Bool, true, false, not, cond, inr, List, [], ◌∷◌, map, length, get_or, slice_get, codes, Option, Some, None, Result, Ok, Err, refl, sym, ◌∙◌, ap, subst}
-use Rattle.std.proofs.lemmas.Option.{get_or_from_slice_get, slice_get_within}
+use Rattle.std.proofs.Common.{◌≡◌, ◌<◌, Bool, true, false, not, cond, inr, List, [], ◌∷◌, length, slice_get, codes, Option, Some, None, Result, refl, sym, ◌∙◌, ap, subst}
+use Rattle.std.proofs.lemmas.Option.{get_or_from_slice_get}
 use Rattle.std.specs.Prelude.{option_map}
 use Rattle.value_model.specs.Owners.{wide}
 use Rattle.byte_text.specs.declared.fixed.StrId.{StrId}
@@ -16,7 +16,6 @@ use Rattle.value_model.specs.Values as m
 use Rattle.value_model.specs.Values.{Bytes}
 use Rattle.value_model.specs.declared.builtin.Builtin.TheVariants as builtin
 use Rattle.value_model.specs.declared.error.RunErr.TheVariants as err
-use Rattle.value_model.specs.declared.ids.ShortOwner.TheVariants.{Frozen}
 use Rattle.value_model.specs.declared.ids.TableId.{TableId}
 use Rattle.value_model.specs.declared.value.Value.{Value}
 use Rattle.value_model.specs.declared.value.Value.TheVariants as value
@@ -30,7 +29,7 @@ use Rattle.luau_tables.specs.declared.globals.LibWorld.{LibWorld}
 use Rattle.luau_tables.proofs.OwnTables.{get_part, got_usable, meta_part, meta_usable, frozen_part}
 use Rattle.luau_tables.proofs.OwnKept.{meta_own, meta_changes, meta_part_set, usable_on}
 use Rattle.luau_tables.proofs.Sameness.{nil_kept}
-use Rattle.lib_arguments.specs.Checks.{Checks, Fails}
+use Rattle.lib_arguments.specs.Checks.{Fails}
 use Rattle.lib_arguments.specs.Rows.{Runs, Gives}
 use Rattle.lib_arguments.specs.declared.ending.Ending.{Ending}
 use Rattle.lib_arguments.specs.declared.ending.Ending.TheVariants.{RunError}

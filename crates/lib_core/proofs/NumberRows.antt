@@ -1,5 +1,5 @@
 -- What the row of `tonumber` gives.
-use Rattle.std.proofs.Common.{◌≡◌, ℕ, ◌<◌, ◌≤◌, ℤ, pos, negsuc, Bool, true, false, cond, List, [], ◌∷◌, slice_get, Option, Some, None, Result, Ok, Err, refl, sym, ◌∙◌, ap, subst, arith}
+use Rattle.std.proofs.Common.{◌≡◌, ℕ, ◌≤◌, ℤ, pos, true, false, cond, List, [], ◌∷◌, slice_get, Some, None, Result, Ok, Err, refl, sym, ◌∙◌, ap, subst, arith}
 use Rattle.std.proofs.lemmas.Option.{get_or_from_slice_get}
 use Rattle.std.specs.Prelude.{◌&&◌, int_le, unsigned_abs}
 use Rattle.std.proofs.lemmas.Bool.Decides.{nat_tests}
@@ -16,10 +16,10 @@ use Rattle.value_model.specs.declared.builtin.Builtin.TheVariants as builtin
 use Rattle.value_model.specs.declared.value.Value.{Value}
 use Rattle.value_model.specs.declared.value.Value.TheVariants as value
 use Rattle.whole_num.specs.NumberTexts.{ReadNumber, read_with_base}
-use Rattle.luau_tables.specs.Worlds.{MayUseIn, store_in}
+use Rattle.luau_tables.specs.Worlds.{store_in}
 use Rattle.luau_tables.specs.declared.globals.LibWorld.{LibWorld}
 use Rattle.lib_arguments.specs.Checks.{Fails}
-use Rattle.lib_arguments.specs.Rows.{Runs, Gives}
+use Rattle.lib_arguments.specs.Rows.{Runs}
 use Rattle.lib_arguments.specs.declared.ending.Ending.{Ending}
 use Rattle.lib_arguments.specs.declared.ending.Ending.TheVariants.{Stop}
 use Rattle.lib_arguments.proofs.RowsRun.{gives_runs, ends}

@@ -1,5 +1,5 @@
 -- What the rows of `assert` and `error` answer.
-use Rattle.std.proofs.Common.{◌≡◌, Bool, true, false, List, map, slice_get, Option, Some, None, Result, sym, ◌∙◌, ap, pos}
+use Rattle.std.proofs.Common.{◌≡◌, Bool, true, false, List, map, slice_get, Some, None, Result, sym, ◌∙◌, ap, pos}
 use Rattle.std.specs.List.{AllByRecursion}
 use Rattle.value_model.specs.Answers as answer
 use Rattle.value_model.specs.Arguments.{argument_or_nil}

@@ -1,8 +1,7 @@
 -- What the rows of raw access give, by the tables and values of the script.
-use Rattle.std.proofs.Common.{◌≡◌, Bool, true, false, List, [], ◌∷◌, length, slice_get, Some, Result, Ok, Err, refl, sym, ◌∙◌, ap, subst, pos}
+use Rattle.std.proofs.Common.{◌≡◌, Bool, List, [], ◌∷◌, length, slice_get, Some, Result, refl, sym, ◌∙◌, ap, subst, pos}
 use Rattle.std.proofs.lemmas.Option.{get_or_from_slice_get}
 use Rattle.byte_text.specs.declared.fixed.StrId.{StrId}
-use Rattle.value_model.specs.Answers as answer
 use Rattle.value_model.specs.Arguments as row
 use Rattle.value_model.specs.CoreRows as core
 use Rattle.value_model.specs.Parts.{meant, table_ref}

@@ -11,8 +11,8 @@ use Rattle.value_model.specs.declared.error.RunErr.TheVariants as err
 use Rattle.value_model.specs.declared.ids.TableId.{TableId}
 use Rattle.value_model.specs.declared.value.Value.{Value}
 use Rattle.value_model.specs.declared.value.Value.TheVariants as value
-use Rattle.value_arena.specs.Arenas.{ArenaView, HasTable, table_at, with_table}
-use Rattle.value_arena.specs.Tables.{TableView, is_nil}
+use Rattle.value_arena.specs.Arenas.{ArenaView, table_at, with_table}
+use Rattle.value_arena.specs.Tables.{is_nil}
 use Rattle.value_arena.proofs.Growing.{with_table_grows}
 use Rattle.luau_tables.specs.Rules as rule
 use Rattle.luau_tables.specs.Worlds.{IsWorld, Keeps, MayUseIn, store_in}

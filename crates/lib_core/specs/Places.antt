@@ -1,5 +1,5 @@
 -- The place from which `select` gives values.
-use Rattle.std.specs.Prelude.{ℕ, zero, suc, ℤ, pos, negsuc, ◌+ℤ◌, Option, Some, None}
+use Rattle.std.specs.Prelude.{ℕ, suc, ℤ, pos, negsuc, ◌+ℤ◌, Option, Some, None}
 
 -- counted from 1 on, a place from 0 on
 abbrev pub place_from : ℤ → Option ℕ

@@ -1,11 +1,10 @@
-use Rattle.std.proofs.Common.{map, subst, sym, OnErr, IfOk}
+use Rattle.std.proofs.Common.{map, subst, sym, IfOk}
 use Rattle.std.proofs.lemmas.Result.{IfOk-weaker}
 use Rattle.luau_tables.specs.Answers.{Answered, raised_by}
 use Rattle.luau_tables.specs.Worlds.{store_in}
 use Rattle.luau_tables.specs.declared.answer.LibAnswer.{LibAnswer}
 use Rattle.value_model.specs.Library.{lib}
 use Rattle.value_model.specs.Parts.{meant}
-use Rattle.value_model.specs.declared.builtin.Builtin.TheVariants as builtin
 use Rattle.lib_arguments.proofs.RowsRun.{answered_by, unanswered_by}
 use Rattle.lib_arguments.specs.Rows.{Runs}
 use Rattle.lib_core.proofs.Builtins.{reads}

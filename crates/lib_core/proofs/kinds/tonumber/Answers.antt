@@ -1,7 +1,6 @@
-use Rattle.std.proofs.Common.{◌≡◌, sym, ◌∙◌, ap}
+use Rattle.std.proofs.Common.{sym, ◌∙◌}
 use Rattle.luau_tables.proofs.Sameness.{nil_is}
-use Rattle.value_model.specs.Parts.{meant}
-use Rattle.lib_arguments.proofs.RowsRun.{found, found_fails, ends, used_at, used_given}
+use Rattle.lib_arguments.proofs.RowsRun.{found, ends, used_at, used_given}
 use Rattle.lib_core.proofs.NumberRows.{tonumber_gives, based_runs}
 use Rattle.lib_core.proofs.kinds.tonumber.Goals as goal
 

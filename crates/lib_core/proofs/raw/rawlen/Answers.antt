@@ -1,4 +1,4 @@
-use Rattle.std.proofs.Common.{◌≡◌, sym, ◌∙◌, ap, subst, pos, [], ◌∷◌, length}
+use Rattle.std.proofs.Common.{◌∙◌, ap, subst, pos, [], ◌∷◌}
 use Rattle.luau_tables.specs.Worlds.{MayUseIn}
 use Rattle.value_arena.specs.Tables.{TableView, border_of}
 use Rattle.value_model.specs.declared.value.Value.TheVariants as value

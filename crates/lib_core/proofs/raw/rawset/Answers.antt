@@ -1,4 +1,4 @@
-use Rattle.std.proofs.Common.{◌≡◌, ◌∙◌, ap, subst, Ok, Err}
+use Rattle.std.proofs.Common.{subst, Err}
 use Rattle.luau_tables.specs.Causes.{Answers}
 use Rattle.value_arena.specs.Arenas.{table_at}
 use Rattle.value_arena.specs.Tables.{is_nil}

@@ -1,11 +1,9 @@
-use Rattle.std.proofs.Common.{◌≡◌, Bool, true, false, map, codes, sym, ◌∙◌, ap}
+use Rattle.std.proofs.Common.{◌≡◌, true, false, map, codes, sym, ◌∙◌, ap}
 use Rattle.value_model.specs.Arguments as row
-use Rattle.value_model.specs.CoreRows as core
 use Rattle.value_model.specs.Parts.{meant}
 use Rattle.value_model.specs.Tables.{same}
 use Rattle.value_model.specs.Values as m
-use Rattle.luau_tables.specs.Worlds.{store_in}
-use Rattle.lib_arguments.proofs.RowsRun.{found, found_fails, ends, used_at, used_given, have_texts}
+use Rattle.lib_arguments.proofs.RowsRun.{found, found_fails, ends, used_given, have_texts}
 use Rattle.lib_core.proofs.SelectRows.{counts, places, place_fails, selects_from, no_place}
 use Rattle.lib_core.proofs.select.select.Goals as goal
 

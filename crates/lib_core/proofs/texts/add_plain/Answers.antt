@@ -1,4 +1,3 @@
-use Rattle.value_model.specs.Names as names
 use Rattle.luau_tables.specs.Globals.{plain_text}
 use Rattle.luau_tables.specs.Part.{store_of}
 use Rattle.lib_core.proofs.texts.add_plain.Goals as goal

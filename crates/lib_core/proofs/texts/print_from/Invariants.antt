@@ -1,4 +1,4 @@
-use Rattle.std.proofs.Common.{◌≡◌, ◌≤◌, map, drop, length}
+use Rattle.std.proofs.Common.{◌≡◌, map, drop}
 use Rattle.value_model.specs.CoreRows as core
 use Rattle.value_model.specs.Parts.{meant}
 use Rattle.luau_tables.specs.Worlds.{store_in}

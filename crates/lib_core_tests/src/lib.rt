@@ -1,7 +1,0 @@
-//! The tests of `lib_core`.
-#![tactic(auto)]
-
-#[cfg(test)]
-mod tests;
-#[cfg(test)]
-mod world;
