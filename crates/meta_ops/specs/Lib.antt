@@ -1,0 +1,2 @@
+pub mod OnIds
+pub mod Outcomes
