@@ -1,3 +1,6 @@
+pub mod NewTables
+pub mod OwnKept
+pub mod OwnTables
 pub mod PartKept
 pub mod Sameness
 pub mod TablesKept

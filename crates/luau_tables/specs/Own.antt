@@ -1,9 +1,7 @@
 -- What a script may come to: its own objects and those of nobody, and texts that the interner holds.
-use Rattle.std.specs.Prelude.{◌≡◌, ℕ, ◌<◌, ◌^◌, true, List, [], length, Option, Some, slice_get, codes, IfSome}
+use Rattle.std.specs.Prelude.{◌≡◌, ℕ, ◌<◌, ◌^◌, true, List, [], length, Some, slice_get, codes, IfSome}
 use Rattle.std.specs.List.{AllByRecursion}
 use Rattle.byte_text.specs.Texts.{AreDistinct}
-use Rattle.byte_text.specs.declared.fixed.StrId.{StrId}
-use Rattle.value_model.specs.Owners.{wide}
 use Rattle.value_model.specs.Values.{Bytes}
 use Rattle.value_model.specs.declared.ids.Owner.{Owner}
 use Rattle.value_model.specs.declared.ids.Owner.TheVariants as owner
