@@ -182,12 +182,15 @@ calculate o (Err s) y = Stop s
 calculate o (Ok x) (Err s) = Stop s
 calculate o (Ok x) (Ok y) = numbered (calculated o x y)
 
+abbrev pub negative : Result ℤ StopCause → Outcome
+negative x = calculate op.Unm x x
+
 abbrev pub arithmetic_error : ArithOp → Value → Value → Outcome
 arithmetic_error o v w = RunError (err.Arithmetic o (kind_of v) (kind_of w))
 
 -- minus, with the number that the operand is
 abbrev pub minus : ArenaView → Globals → Value → ReadNumber → Outcome
-minus a g v (Some x) = calculate op.Unm x x
+minus a g v (Some x) = negative x
 minus a g v None =
     let h = metamethod a g v g.meta.unm in
     call_or_else h (call_one h v) (arithmetic_error op.Unm v v)

@@ -58,7 +58,7 @@ fn minus(arena: &Arena, globals: &Globals, names: &Interner, a: &Value) -> Outco
     ensures { result ≡ kept.minus arena.now globals.now a.now (model.as_number (meant names.now a.now)) }
 {
     match number(names, a) {
-        Some(x) => calculate(ArithOp::Unm, x, x),
+        Some(x) => negative(x),
         None => {
             let handler = metamethod(arena, globals, a, globals.meta.unm);
             call_one_or(&handler, a, arithmetic_error(ArithOp::Unm, a, a))
@@ -125,6 +125,17 @@ fn calculate(op: ArithOp, a: Result<Whole, Stop>, b: Result<Whole, Stop>) -> Out
         (Ok(x), Ok(y)) => numbered(calculated(op, x, y)),
         (Ok(_), Err(stop)) => Outcome::Stop(stop),
         (Err(stop), _) => Outcome::Stop(stop),
+    }
+}
+
+// The number of the other sign, or the stop.
+#[tactic(auto, unfolding(value_model::specs::Operators::calculated))]
+fn negative(a: Result<Whole, Stop>) -> Outcome
+    ensures { result ≡ kept.negative a }
+{
+    match a {
+        Ok(x) => Outcome::Done(Value::Num(x.neg())),
+        Err(stop) => Outcome::Stop(stop),
     }
 }
 

@@ -56,9 +56,10 @@ pub fn newindex<L: Ledger>(
     ensures ticks { IfOk result (λ found. steps.new ≡ steps.old + found.1) }
 {
     let (first, sought, stored) = (&base, &key, &v);
-    match writes_into(arena, globals, first, sought, stored, steps) {
-        (Target::NoTable(outcome), asked) => Ok((outcome, asked)),
-        (Target::Into(t), asked) => {
+    let (target, asked) = writes_into(arena, globals, first, sought, stored, steps);
+    match target {
+        Target::NoTable(outcome) => Ok((outcome, asked)),
+        Target::Into(t) => {
             let outcome = written(arena, t, sought, stored, steps)?;
             Ok((outcome, asked))
         }

@@ -2,4 +2,8 @@
 #![tactic(auto)]
 
 #[cfg(test)]
-mod tests;
+mod chains;
+#[cfg(test)]
+mod choices;
+#[cfg(test)]
+mod world;
