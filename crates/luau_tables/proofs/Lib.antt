@@ -1,7 +1,10 @@
+pub mod MoreTexts
 pub mod NewTables
 pub mod OwnKept
 pub mod OwnTables
 pub mod PartKept
 pub mod Sameness
+pub mod StoreTables
 pub mod TablesKept
 pub mod Texts
+pub mod WorldsKept

@@ -147,7 +147,7 @@ module _ (texts : List Bytes) (a : ArenaView) (t : TableId) (v : TableView) wher
       }
 
 -- of all objects only the tables of the owner change
-changes_table : (a : ArenaView) (w : Owner) (t : TableId) (v : TableView) → wide t.owner ≡ w → HasTable a t → v.is_marked ≡ (table_at a t).is_marked → ChangesTables w a (with_table a t v)
+pub changes_table : (a : ArenaView) (w : Owner) (t : TableId) (v : TableView) → wide t.owner ≡ w → HasTable a t → v.is_marked ≡ (table_at a t).is_marked → ChangesTables w a (with_table a t v)
 unfolding with_table
 changes_table a w t v owned there mark =
     record {

@@ -1,6 +1,7 @@
 pub mod Borders
 pub mod Growing
 pub mod InOrder
+pub mod Keeping
 pub mod Laws
 pub mod Owning
 pub mod Padding

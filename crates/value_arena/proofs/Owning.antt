@@ -15,7 +15,7 @@ use Rattle.value_arena.specs.declared.closure.Closure.{Closure}
 use Rattle.value_arena.specs.declared.closure.Thread.{Thread}
 use Rattle.value_arena.specs.Tables.{TableView, Entries, same, is_nil, no_table}
 use Rattle.value_arena.specs.Objects.{ObjectsView, no_objects, no_closure, no_coroutine, new_coroutine}
-use Rattle.value_arena.specs.Arenas.{ArenaView, HasTable, HasClosure, HasCell, HasThread, objects_of, with_objects, slot, no_arena, table_at, with_table, closure_at, with_closure, cell_at, with_cell, thread_at, with_thread, new_table, new_closure, new_cell, new_thread}
+use Rattle.value_arena.specs.Arenas.{ArenaView, HasClosure, HasCell, objects_of, with_objects, slot, table_at, with_table, closure_at, with_closure, cell_at, with_cell, thread_at, with_thread, new_table, new_closure, new_cell, new_thread}
 use Rattle.value_arena.specs.Growing.{Grows}
 use Rattle.value_arena.specs.Owning.{MaySee, MayHold, MayBeTable, MayBeClosure, MayBeThread, IsOwned}
 use Rattle.value_arena.proofs.Borders.{put}

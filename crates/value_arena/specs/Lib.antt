@@ -2,6 +2,7 @@ pub mod ArenaLending
 pub mod Arenas
 pub mod Borders
 pub mod Growing
+pub mod Laws
 pub mod Lending
 pub mod Objects
 pub mod Owning

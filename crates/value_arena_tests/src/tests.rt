@@ -2,7 +2,9 @@ ghost use Rattle.value_arena.specs.Arenas.{HasCell, HasClosure, HasTable, HasThr
 
 use std::process::Abort;
 use std::test::Fail;
-use value_arena::{Arena, Thread};
+use value_arena::{
+    Arena, Thread, border_is_least, new_objects_keep, references_keep, writes_keep,
+};
 use value_model::{Builtin, CellId, ClosureId, CoStatus, Owner, TableId, ThreadId, Value};
 use whole_num::Whole;
 
@@ -170,5 +172,32 @@ fn objects(rt: HostRuntime) -> Result<(), Fail> {
     assert_eq!(rt; arena.owner(Value::Native(Builtin::Print)), Owner::Frozen);
     assert_eq!(rt; arena.ordinal(Value::Native(Builtin::Print)), 0);
     assert_eq!(rt; std::mem::size_of::<Value>(), 16);
+    Ok(())
+}
+
+// Writes one of two variables, beside which the other one stays.
+fn write_one(rt: &impl Abort, arena: &mut Arena, id: CellId, other: CellId)
+    requires there { HasCell arena.old id }
+    requires other { HasCell arena.old other }
+{
+    writes_keep();
+    references_keep();
+    let held = arena.cell(other);
+    assert_ne!(rt; held, Value::Bool(true));
+    arena.set_cell(id, Value::Bool(true));
+    assert_eq!(rt; arena.cell(id), Value::Bool(true));
+    assert_eq!(rt; arena.cell(other), held);
+}
+
+#[test]
+fn laws(rt: HostRuntime) -> Result<(), Fail> {
+    border_is_least();
+    new_objects_keep();
+    references_keep();
+    let mut arena = Arena::new(rt.alloc());
+    let id = arena.new_cell(Owner::Script(0), Value::Nil)?;
+    let other = arena.new_cell(Owner::Script(1), Value::Nil)?;
+    assert!(rt; id != other);
+    write_one(&rt, &mut arena, id, other);
     Ok(())
 }
