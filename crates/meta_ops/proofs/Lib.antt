@@ -1,0 +1,5 @@
+pub mod Chains
+pub mod IndexKept
+pub mod MetamethodsKept
+pub mod OperatorsKept
+pub mod There

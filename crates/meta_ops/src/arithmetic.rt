@@ -94,6 +94,7 @@ fn of_two(
 }
 
 // The number that a value is or is read as, or its stop; none where it is no number.
+#[tactic(auto, unfolding(value_model::specs::Metamethods::as_number, value_model::specs::Parts::meant))]
 fn number(names: &Interner, v: &Value) -> Option<Result<Whole, Stop>>
     requires { HasText names.now v.now }
     ensures { result ≡ model.as_number (meant names.now v.now) }

@@ -50,6 +50,7 @@ pub(crate) fn said_of_table(arena: &Arena, t: TableId, name: StrId) -> Value
 }
 
 /// What the metatable of a value says under a name; nil where it has none.
+#[tactic(auto, unfolding(crate::specs::OnIds::metamethod))]
 pub(crate) fn metamethod(arena: &Arena, globals: &Globals, v: &Value, name: StrId) -> Value
     requires owned { IsOwned arena.now }
     requires strings { HasTable arena.now globals.now.string_meta }
