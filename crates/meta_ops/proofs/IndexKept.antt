@@ -8,9 +8,6 @@ use Rattle.value_model.specs.Parts.{meant, meant_error, bytes_at, table_ref, IsK
 use Rattle.value_model.specs.Store.{Store}
 use Rattle.value_model.specs.Values as m
 use Rattle.value_model.specs.Values.{Bytes, kind_of}
-use Rattle.byte_text.specs.declared.fixed.StrId.{StrId}
-use Rattle.value_model.specs.declared.error.RunErr.TheVariants as err
-use Rattle.value_model.specs.declared.kind.Kind.{Kind}
 use Rattle.value_model.specs.declared.ids.Owner.{Owner}
 use Rattle.value_model.specs.declared.ids.TableId.{TableId}
 use Rattle.value_model.specs.declared.value.Value.{Value}
@@ -164,11 +161,3 @@ module _ (texts : List Bytes) (g : Globals) (a : ArenaView) (w : Owner) (own : I
         meant = ap (found_in texts part) e ∙ sym (along_kept 100 key k 0 base h);
         usable = subst OfFound (sym e) (along_usable 101 key k 0 base h);
       }
-
--- a key that is no string
-pub index_error_with : (base key : Value) (k l : Kind) → ((x : StrId) → key ≡ value.Str x → ⊥) → kind_of (meant [] base) ≡ k → kind_of (meant [] key) ≡ l → err.IndexWith k l ≡ kept.index_error base key
-index_error_with base (value.Str x) k l n e f = absurd (n x refl)
-index_error_with base key k l n e f = both key (sym e ∙ kind_kept [] base) (sym f ∙ kind_kept [] key)
-  where
-    both : (key : Value) → k ≡ kept.kind_of base → l ≡ kept.kind_of key → err.IndexWith k l ≡ err.IndexWith (kept.kind_of base) (kept.kind_of key)
-    both key e f = ap (λ k. err.IndexWith k l) e ∙ ap (λ l. err.IndexWith (kept.kind_of base) l) f

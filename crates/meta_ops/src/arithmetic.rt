@@ -12,7 +12,7 @@ ghost use Rattle.value_model.specs.Operators.{calculated};
 ghost use Rattle.value_model.specs.Parts.{meant};
 ghost use Rattle.whole_num.specs.NumberTexts.{number_of};
 
-use crate::metamethod::{metamethod, metamethod_of_two};
+use crate::metamethod::{kind_of, metamethod, metamethod_of_two};
 use crate::outcome::{Outcome, call_one_or, call_two_or};
 use byte_text::{Interner, StrId};
 use luau_tables::{Globals, MetaNames};
@@ -189,7 +189,7 @@ fn arithmetic_error(op: ArithOp, a: &Value, b: &Value) -> Outcome
 {
     Outcome::RunError(RunErr::Arithmetic {
         operator: op,
-        left: a.kind(),
-        right: b.kind(),
+        left: kind_of(a),
+        right: kind_of(b),
     })
 }

@@ -9,7 +9,7 @@ ghost use Rattle.value_arena.specs.Owning.{IsOwned};
 ghost use Rattle.value_model.specs.Choices.{Callee};
 ghost use Rattle.value_model.specs.Parts.{meant};
 
-use crate::metamethod::{is_function, metamethod};
+use crate::metamethod::{is_function, kind_of, metamethod};
 use crate::outcome::{Outcome, call_one};
 use luau_tables::Globals;
 use value_arena::Arena;
@@ -42,6 +42,6 @@ fn target_of(arena: &Arena, globals: &Globals, f: &Value) -> Outcome
     if is_function(&handler) {
         call_one(&handler, f)
     } else {
-        Outcome::RunError(RunErr::CallOf { callee: f.kind() })
+        Outcome::RunError(RunErr::CallOf { callee: kind_of(f) })
     }
 }

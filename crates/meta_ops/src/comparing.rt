@@ -10,7 +10,7 @@ ghost use Rattle.value_model.specs.Choices.{Compare};
 ghost use Rattle.value_model.specs.Metamethods as model;
 ghost use Rattle.value_model.specs.Parts.{meant};
 
-use crate::metamethod::metamethod_of_two;
+use crate::metamethod::{kind_of, metamethod_of_two};
 use crate::outcome::{Outcome, call_two_or};
 use byte_text::Interner;
 use luau_tables::Globals;
@@ -86,7 +86,7 @@ fn less(arena: &Arena, globals: &Globals, names: &Interner, a: &Value, b: &Value
         Some(answer) => Outcome::Done(Value::Bool(answer)),
         None => {
             let handler = metamethod_of_two(arena, globals, a, b, globals.meta.lt);
-            let (left, right) = (a.kind(), b.kind());
+            let (left, right) = (kind_of(a), kind_of(b));
             let error = Outcome::RunError(RunErr::CompareLess { left, right });
             call_two_or(&handler, a, b, error)
         }
@@ -113,7 +113,7 @@ fn less_or_equal(
         Some(answer) => Outcome::Done(Value::Bool(answer)),
         None => {
             let handler = metamethod_of_two(arena, globals, a, b, globals.meta.le);
-            let (left, right) = (a.kind(), b.kind());
+            let (left, right) = (kind_of(a), kind_of(b));
             let error = Outcome::RunError(RunErr::CompareLessOrEqual { left, right });
             call_two_or(&handler, a, b, error)
         }

@@ -9,7 +9,7 @@ ghost use Rattle.value_arena.specs.Owning.{IsOwned};
 ghost use Rattle.value_model.specs.Choices.{Index};
 ghost use Rattle.value_model.specs.Parts.{meant};
 
-use crate::metamethod::{is_function, is_nil, said_by, said_of_table};
+use crate::metamethod::{is_function, is_nil, kind_of, said_by, said_of_table};
 use crate::outcome::{Link, Outcome, call_two};
 use luau_tables::{Globals, get};
 use resource::Steps;
@@ -26,12 +26,12 @@ pub(crate) fn index_error(base: &Value, key: &Value) -> RunErr
 {
     match key {
         Value::Str(name) => RunErr::IndexWithName {
-            base: base.kind(),
+            base: kind_of(base),
             key: *name,
         },
         _ => RunErr::IndexWith {
-            base: base.kind(),
-            key: key.kind(),
+            base: kind_of(base),
+            key: kind_of(key),
         },
     }
 }

@@ -9,7 +9,7 @@ ghost use Rattle.value_arena.specs.Arenas.{HasTable};
 ghost use Rattle.value_arena.specs.Owning.{IsOwned};
 ghost use Rattle.value_model.specs.Parts.{meant};
 
-use crate::metamethod::metamethod_of_two;
+use crate::metamethod::{kind_of, metamethod_of_two};
 use crate::outcome::{Outcome, call_two_or};
 use byte_text::{Interner, StrId};
 use luau_tables::Globals;
@@ -51,8 +51,8 @@ pub fn concat(
     }
     let handler = metamethod_of_two(arena, globals, left, right, globals.meta.concat);
     let error = Outcome::RunError(RunErr::Concatenate {
-        left: left.kind(),
-        right: right.kind(),
+        left: kind_of(left),
+        right: kind_of(right),
     });
     Ok(call_two_or(&handler, left, right, error))
 }

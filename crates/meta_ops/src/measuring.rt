@@ -9,7 +9,7 @@ ghost use Rattle.value_arena.specs.Owning.{IsOwned};
 ghost use Rattle.value_model.specs.Choices.{Length};
 ghost use Rattle.value_model.specs.Parts.{bytes_at, meant};
 
-use crate::metamethod::said_of_table;
+use crate::metamethod::{kind_of, said_of_table};
 use crate::outcome::{Outcome, call_one_or};
 use byte_text::Interner;
 use luau_tables::{Globals, border};
@@ -42,7 +42,7 @@ fn length_of(arena: &Arena, globals: &Globals, names: &Interner, a: &Value) -> O
     match a {
         Value::Str(id) => Outcome::Done(count(names.bytes(*id).len())),
         Value::Table(t) => table_length(arena, globals, *t),
-        _ => Outcome::RunError(RunErr::LengthOf { operand: a.kind() }),
+        _ => Outcome::RunError(RunErr::LengthOf { operand: kind_of(a) }),
     }
 }
 

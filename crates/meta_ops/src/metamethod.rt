@@ -1,4 +1,4 @@
-//! Metamethods.
+//! Metamethods, and what their choice looks at.
 
 ghost use Rattle.std.specs.Prelude.{◌≡◌};
 ghost use Rattle.luau_tables.specs.Own.{IsThere};
@@ -9,7 +9,7 @@ ghost use Rattle.value_arena.specs.Owning.{IsOwned};
 use byte_text::StrId;
 use luau_tables::Globals;
 use value_arena::Arena;
-use value_model::{TableId, Value};
+use value_model::{Kind, TableId, Value};
 
 /// Whether a value is nil.
 #[inline(always)]
@@ -27,6 +27,13 @@ pub(crate) fn is_function(v: &Value) -> bool
         v,
         Value::Closure(_) | Value::Native(_) | Value::Host(_) | Value::Wrap(_)
     )
+}
+
+/// The kind of a value.
+pub(crate) fn kind_of(v: &Value) -> Kind
+    ensures { result ≡ kept.kind_of v.now }
+{
+    v.kind()
 }
 
 /// What a table says under a name.
