@@ -1,3 +1,4 @@
+pub mod Borders
 pub mod Chains
 pub mod IndexKept
 pub mod MetamethodsKept

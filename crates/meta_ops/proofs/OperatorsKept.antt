@@ -83,6 +83,15 @@ two_kinds texts v u e k same =
     ∙ ap (λ r. choice.Errs (e (kept.kind_of v) r)) (kind_kept texts u)
     ∙ ap (λ e. choice.Errs e) (same (kept.kind_of v) (kept.kind_of u))
 
+-- the order of two numbers or of two strings
+ordered_kept : (numbers : ℤ → ℤ → Bool) (strings : Bytes → Bytes → Bool) (texts : List Bytes) (v u : Value) → model.ordered numbers strings (meant texts v) (meant texts u) ≡ kept.ordered numbers strings texts v u
+unfolding meant
+ordered_kept numbers strings texts (value.Num x) (value.Num y) = refl
+ordered_kept numbers strings texts (value.Num x) _ = refl
+ordered_kept numbers strings texts (value.Str x) (value.Str y) = refl
+ordered_kept numbers strings texts (value.Str x) _ = refl
+ordered_kept numbers strings texts _ _ = refl
+
 -- ---- in the part of a script
 
 -- what an outcome is to mean, and that the script may use each value in it
@@ -275,15 +284,15 @@ module _ (texts : List Bytes) (g : Globals) (a : ArenaView) (w : Owner) (own : I
   unfolding model.choose model.compare
   equal_chosen v u h k outcome e = chosen_is (choice.Compare order.Eq (meant texts v) (meant texts u)) _ _ outcome refl (equal_means v u h k) e
 
-  pub less_chosen : (v u : Value) → MayUse texts a w v → MayUse texts a w u → (outcome : Outcome) → outcome ≡ kept.less a g v u (model.ordered int_lt model.bytes_less (meant texts v) (meant texts u)) → IsChosen texts g a w (choice.Compare order.Lt (meant texts v) (meant texts u)) outcome 0
+  pub less_chosen : (v u : Value) → MayUse texts a w v → MayUse texts a w u → (outcome : Outcome) → outcome ≡ kept.less a g v u (kept.ordered int_lt model.bytes_less texts v u) → IsChosen texts g a w (choice.Compare order.Lt (meant texts v) (meant texts u)) outcome 0
   unfolding model.choose model.compare
   less_chosen v u h k outcome e =
-      chosen_is (choice.Compare order.Lt (meant texts v) (meant texts u)) _ _ outcome refl (less_means v u h k (model.ordered int_lt model.bytes_less (meant texts v) (meant texts u))) e
+      chosen_is (choice.Compare order.Lt (meant texts v) (meant texts u)) _ _ outcome refl (less_means v u h k (model.ordered int_lt model.bytes_less (meant texts v) (meant texts u))) (e ∙ ap (kept.less a g v u) (sym (ordered_kept int_lt model.bytes_less texts v u)))
 
-  pub less_or_equal_chosen : (v u : Value) → MayUse texts a w v → MayUse texts a w u → (outcome : Outcome) → outcome ≡ kept.less_or_equal a g v u (model.ordered int_le (λ x y. not (model.bytes_less y x)) (meant texts v) (meant texts u)) → IsChosen texts g a w (choice.Compare order.Le (meant texts v) (meant texts u)) outcome 0
+  pub less_or_equal_chosen : (v u : Value) → MayUse texts a w v → MayUse texts a w u → (outcome : Outcome) → outcome ≡ kept.less_or_equal a g v u (kept.ordered int_le (λ x y. not (model.bytes_less y x)) texts v u) → IsChosen texts g a w (choice.Compare order.Le (meant texts v) (meant texts u)) outcome 0
   unfolding model.choose model.compare
   less_or_equal_chosen v u h k outcome e =
-      chosen_is (choice.Compare order.Le (meant texts v) (meant texts u)) _ _ outcome refl (less_or_equal_means v u h k (model.ordered int_le (λ x y. not (model.bytes_less y x)) (meant texts v) (meant texts u))) e
+      chosen_is (choice.Compare order.Le (meant texts v) (meant texts u)) _ _ outcome refl (less_or_equal_means v u h k (model.ordered int_le (λ x y. not (model.bytes_less y x)) (meant texts v) (meant texts u))) (e ∙ ap (kept.less_or_equal a g v u) (sym (ordered_kept int_le (λ x y. not (model.bytes_less y x)) texts v u)))
 
   pub length_chosen : (v : Value) → MayUse texts a w v → (outcome : Outcome) → outcome ≡ kept.length_of texts a g v → IsChosen texts g a w (choice.Length (meant texts v)) outcome 0
   unfolding model.choose

@@ -220,7 +220,13 @@ different a g v w =
 abbrev pub equal : ArenaView → Globals → Value → Value → Outcome
 equal a g v w = cond (tables.same v w) (answer true) (cond (both_tables v w) (different a g v w) (answer false))
 
--- with the order of two numbers or of two strings
+-- the order of two numbers or of two strings
+abbrev pub ordered : (numbers : ℤ → ℤ → Bool) → (strings : Bytes → Bytes → Bool) → (texts : List Bytes) → Value → Value → Option Bool
+ordered numbers strings texts (Num x) (Num y) = Some (numbers x y)
+ordered numbers strings texts (Str x) (Str y) = Some (strings (bytes_at texts x.0) (bytes_at texts y.0))
+ordered numbers strings texts v w = None
+
+-- with that order
 abbrev pub less : ArenaView → Globals → Value → Value → Option Bool → Outcome
 less a g v w (Some b) = answer b
 less a g v w None =

@@ -7,7 +7,7 @@ ghost use Rattle.meta_ops.specs.Outcomes.{ChoosesIn};
 ghost use Rattle.value_arena.specs.Arenas.{HasTable};
 ghost use Rattle.value_arena.specs.Owning.{IsOwned};
 ghost use Rattle.value_model.specs.Choices.{Compare};
-ghost use Rattle.value_model.specs.Metamethods as model;
+ghost use Rattle.value_model.specs.Metamethods.{bytes_less};
 ghost use Rattle.value_model.specs.Parts.{meant};
 
 use crate::metamethod::{kind_of, metamethod_of_two};
@@ -80,7 +80,7 @@ fn less(arena: &Arena, globals: &Globals, names: &Interner, a: &Value, b: &Value
     requires b { IsThere arena.now b.now }
     requires text_a { HasText names.now a.now }
     requires text_b { HasText names.now b.now }
-    ensures { result ≡ kept.less arena.now globals.now a.now b.now (model.ordered int_lt model.bytes_less (meant names.now a.now) (meant names.now b.now)) }
+    ensures { result ≡ kept.less arena.now globals.now a.now b.now (kept.ordered int_lt bytes_less names.now a.now b.now) }
 {
     match are_less(names, a, b) {
         Some(answer) => Outcome::Done(Value::Bool(answer)),
@@ -107,7 +107,7 @@ fn less_or_equal(
     requires b { IsThere arena.now b.now }
     requires text_a { HasText names.now a.now }
     requires text_b { HasText names.now b.now }
-    ensures { result ≡ kept.less_or_equal arena.now globals.now a.now b.now (model.ordered int_le (λ x y. not (model.bytes_less y x)) (meant names.now a.now) (meant names.now b.now)) }
+    ensures { result ≡ kept.less_or_equal arena.now globals.now a.now b.now (kept.ordered int_le (λ x y. not (bytes_less y x)) names.now a.now b.now) }
 {
     match are_less_or_equal(names, a, b) {
         Some(answer) => Outcome::Done(Value::Bool(answer)),
@@ -124,7 +124,7 @@ fn less_or_equal(
 fn are_less(names: &Interner, a: &Value, b: &Value) -> Option<bool>
     requires a { HasText names.now a.now }
     requires b { HasText names.now b.now }
-    ensures { result ≡ model.ordered int_lt model.bytes_less (meant names.now a.now) (meant names.now b.now) }
+    ensures { result ≡ kept.ordered int_lt bytes_less names.now a.now b.now }
 {
     match (a, b) {
         (Value::Num(x), Value::Num(y)) => Some(x.get() < y.get()),
@@ -137,7 +137,7 @@ fn are_less(names: &Interner, a: &Value, b: &Value) -> Option<bool>
 fn are_less_or_equal(names: &Interner, a: &Value, b: &Value) -> Option<bool>
     requires a { HasText names.now a.now }
     requires b { HasText names.now b.now }
-    ensures { result ≡ model.ordered int_le (λ x y. not (model.bytes_less y x)) (meant names.now a.now) (meant names.now b.now) }
+    ensures { result ≡ kept.ordered int_le (λ x y. not (bytes_less y x)) names.now a.now b.now }
 {
     match (a, b) {
         (Value::Num(x), Value::Num(y)) => Some(x.get() <= y.get()),
@@ -148,7 +148,7 @@ fn are_less_or_equal(names: &Interner, a: &Value, b: &Value) -> Option<bool>
 
 // Bytewise order. A text comes before each that it begins.
 fn bytes_less(a: &[u8], b: &[u8]) -> bool
-    ensures { result ≡ model.bytes_less a.now b.now }
+    ensures { result ≡ bytes_less a.now b.now }
 {
     a < b
 }
