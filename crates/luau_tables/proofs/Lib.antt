@@ -3,6 +3,7 @@ pub mod NewTables
 pub mod OwnKept
 pub mod OwnTables
 pub mod PartKept
+pub mod PartLaws
 pub mod Sameness
 pub mod StoreTables
 pub mod TablesKept
