@@ -52,7 +52,10 @@ pub fn table_at(f: Builtin, i: usize, args: &[Value]) -> Result<TableId, Ending>
     ensures checks { (texts : List Bytes) → Checks texts table_ref (row.table_argument f i (map (meant texts) args.now)) result }
     ensures there { IfOk result (λ t. slice_get args.now i ≡ Some (Table t)) }
 {
-    table_from(f, i, wanted(f, i, Wanted::OfKind(Kind::Table), args)?)
+    match wanted(f, i, Wanted::OfKind(Kind::Table), args) {
+        Ok(v) => table_from(f, i, v),
+        Err(e) => Err(e),
+    }
 }
 
 /// The table that an argument is.

@@ -47,8 +47,10 @@ pub fn number_at(f: Builtin, i: usize, names: &Interner, args: &[Value]) -> Resu
     requires texts { AllByRecursion (HasText names.now) args.now }
     ensures { Checks names.now (λ z. z) (row.number_at f i (map (meant names.now) args.now)) result }
 {
-    let v = wanted(f, i, Wanted::OfKind(Kind::Number), args)?;
-    number_from(f, i, names, &v)
+    match wanted(f, i, Wanted::OfKind(Kind::Number), args) {
+        Ok(v) => number_from(f, i, names, &v),
+        Err(e) => Err(e),
+    }
 }
 
 /// An argument that is a number, or this one where it is absent or nil.

@@ -4,6 +4,7 @@ ghost use Rattle.std.specs.Prelude.{◌≡◌, ◌<◌, length, map, slice_get, 
 ghost use Rattle.lib_arguments.specs.Checks.{Checks, most_arguments};
 ghost use Rattle.luau_tables.specs.Own.{AreTexts, HasText};
 ghost use Rattle.luau_tables.specs.Worlds.{Extends};
+ghost use Rattle.std.specs.Fmt.{signed_decimal};
 ghost use Rattle.std.specs.List.{AllByRecursion};
 ghost use Rattle.value_model.specs.Arguments as row;
 ghost use Rattle.value_model.specs.Parts.{bytes_at, meant};
@@ -15,7 +16,7 @@ use byte_text::{Interner, StrId};
 use resource::OutOfMemory;
 use std::alloc::Global;
 use value_model::{Builtin, Kind, Value, Wanted};
-use whole_num::print_into;
+use whole_num::{Whole, print_into};
 
 // A text has fewer bytes than this.
 const LONGEST_TEXT: usize = 9_007_199_254_740_992;
@@ -30,6 +31,17 @@ pub fn text_value(names: &mut Interner, bytes: &[u8]) -> Result<StrId, OutOfMemo
         return Err(OutOfMemory);
     }
     names.intern(bytes)
+}
+
+// The number of a number's text.
+fn digits(alloc: Global, names: &mut Interner, number: Whole) -> Result<StrId, OutOfMemory>
+    ensures text { IfOk result (λ id. slice_get names.new id.0 ≡ Some (signed_decimal number)) }
+    ensures extends { Extends names.old names.new }
+    ensures texts { AreTexts names.old → AreTexts names.new }
+{
+    let mut text = Vec::new(alloc);
+    print_into(number, &mut text)?;
+    text_value(names, text.as_slice())
 }
 
 /// The text that an argument is, or its digits where it is a number.
@@ -47,13 +59,12 @@ pub fn text_from(
     ensures extends { Extends names.old names.new }
     ensures texts { AreTexts names.old → AreTexts names.new }
 {
-    match v {
-        Value::Str(id) => Ok(*id),
-        Value::Num(number) => {
-            let mut digits = Vec::new(alloc);
-            print_into(*number, &mut digits)?;
-            Ok(text_value(names, digits.as_slice())?)
-        }
+    match *v {
+        Value::Str(id) => Ok(id),
+        Value::Num(number) => match digits(alloc, names, number) {
+            Ok(id) => Ok(id),
+            Err(OutOfMemory) => Err(Ending::OutOfMemory),
+        },
         _ => Err(invalid(f, i, Wanted::OfKind(Kind::String), v)),
     }
 }
@@ -73,8 +84,10 @@ pub fn text_at(
     ensures extends { Extends names.old names.new }
     ensures texts { AreTexts names.old → AreTexts names.new }
 {
-    let v = wanted(f, i, Wanted::OfKind(Kind::String), args)?;
-    text_from(alloc, f, i, names, &v)
+    match wanted(f, i, Wanted::OfKind(Kind::String), args) {
+        Ok(v) => text_from(alloc, f, i, names, &v),
+        Err(e) => Err(e),
+    }
 }
 
 /// The same, or this text where the argument is absent or nil.
@@ -94,7 +107,10 @@ pub fn text_or(
     ensures texts { AreTexts names.old → AreTexts names.new }
 {
     match argument_or_nil(args, i) {
-        Value::Nil => Ok(text_value(names, otherwise)?),
+        Value::Nil => match text_value(names, otherwise) {
+            Ok(id) => Ok(id),
+            Err(OutOfMemory) => Err(Ending::OutOfMemory),
+        },
         v => text_from(alloc, f, i, names, &v),
     }
 }
