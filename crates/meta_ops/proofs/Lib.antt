@@ -1,6 +1,7 @@
 pub mod Borders
 pub mod Chains
 pub mod IndexKept
+pub mod JoiningKept
 pub mod MetamethodsKept
 pub mod OperatorsKept
 pub mod There

@@ -76,7 +76,7 @@ calculate_kept texts o (Ok x) (Ok y) = by (calculated o x y)
     by (Err s) = refl
 
 -- an error of two kinds
-two_kinds : (texts : List Bytes) (v u : Value) (e : Kind → Kind → error.RunError) (k : Kind → Kind → RunErr) → ((l r : Kind) → e l r ≡ meant_error texts (k l r)) → choice.Errs (e (kind_of (meant texts v)) (kind_of (meant texts u))) ≡ meant_outcome texts (RunError (k (kept.kind_of v) (kept.kind_of u)))
+pub two_kinds : (texts : List Bytes) (v u : Value) (e : Kind → Kind → error.RunError) (k : Kind → Kind → RunErr) → ((l r : Kind) → e l r ≡ meant_error texts (k l r)) → choice.Errs (e (kind_of (meant texts v)) (kind_of (meant texts u))) ≡ meant_outcome texts (RunError (k (kept.kind_of v) (kept.kind_of u)))
 unfolding meant_outcome
 two_kinds texts v u e k same =
     ap (λ l. choice.Errs (e l (kind_of (meant texts u)))) (kind_kept texts v)
@@ -95,7 +95,7 @@ ordered_kept numbers strings texts _ _ = refl
 -- ---- in the part of a script
 
 -- what an outcome is to mean, and that the script may use each value in it
-record Means (texts : List Bytes) (a : ArenaView) (w : Owner) (p : choice.Outcome) (o : Outcome) : Type 0 where
+pub record Means (texts : List Bytes) (a : ArenaView) (w : Owner) (p : choice.Outcome) (o : Outcome) : Type 0 where
   pub meant : p ≡ meant_outcome texts o
   pub usable : OfOutcome texts (MayUse texts a w) o
 
@@ -139,7 +139,7 @@ module _ (texts : List Bytes) (g : Globals) (a : ArenaView) (w : Owner) (own : I
       }
 
   -- the metamethod of the first operand, or of the second, or else
-  two : (name : StrId) (bytes : Bytes) → slice_get texts name.0 ≡ Some bytes → (v u : Value) → May v → May u → (p : choice.Outcome) (o : Outcome) → Means texts a w p o → Means texts a w (model.call_or_else (model.metamethod_of_two part (meant texts v) (meant texts u) bytes) (meant texts v ∷ meant texts u ∷ []) p) (kept.call_or_else (kept.metamethod_of_two a g v u name) (kept.call_two (kept.metamethod_of_two a g v u name) v u) o)
+  pub two : (name : StrId) (bytes : Bytes) → slice_get texts name.0 ≡ Some bytes → (v u : Value) → May v → May u → (p : choice.Outcome) (o : Outcome) → Means texts a w p o → Means texts a w (model.call_or_else (model.metamethod_of_two part (meant texts v) (meant texts u) bytes) (meant texts v ∷ meant texts u ∷ []) p) (kept.call_or_else (kept.metamethod_of_two a g v u name) (kept.call_two (kept.metamethod_of_two a g v u name) v u) o)
   two name bytes named v u h k p o m =
       record {
         meant = ap (λ f. model.call_or_else f (meant texts v ∷ meant texts u ∷ []) p) (of_two_part texts g a w own name bytes named v u h k) ∙ call_two_kept texts (kept.metamethod_of_two a g v u name) v u o p m.meant;

@@ -1,5 +1,5 @@
 -- What comes of an operation, on values as a program keeps them.
-use Rattle.std.specs.Prelude.{ℕ, zero, suc, ℤ, pos, Bool, true, false, cond, List, [], ◌∷◌, length, Option, Some, None, Result, Ok, Err}
+use Rattle.std.specs.Prelude.{ℕ, zero, suc, ℤ, pos, Bool, true, false, ◌&&◌, cond, List, [], ◌∷◌, length, Option, Some, None, Result, Ok, Err}
 use Rattle.std.specs.Fmt.{signed_decimal}
 use Rattle.byte_text.specs.declared.fixed.StrId.{StrId}
 use Rattle.value_model.specs.declared.error.RunErr.{RunErr}
@@ -263,6 +263,9 @@ abbrev pub is_text : Value → Bool
 is_text (Str x) = true
 is_text (Num z) = true
 is_text v = false
+
+abbrev pub are_texts : Value → Value → Bool
+are_texts v w = is_text v && is_text w
 
 -- the text of a string or of a number
 abbrev pub text_of : (texts : List Bytes) → Value → Bytes

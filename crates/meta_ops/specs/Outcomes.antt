@@ -8,7 +8,7 @@ use Rattle.value_model.specs.Values.{Bytes}
 use Rattle.value_model.specs.declared.ids.Owner.{Owner}
 use Rattle.value_model.specs.declared.value.Value.{Value}
 use Rattle.value_arena.specs.Arenas.{ArenaView}
-use Rattle.luau_tables.specs.Own.{HasText, IsOwn, MayUse}
+use Rattle.luau_tables.specs.Own.{IsOwn, MayUse}
 use Rattle.luau_tables.specs.Part.{store_of}
 use Rattle.luau_tables.specs.Worlds.{ChangesTables}
 use Rattle.luau_tables.specs.declared.globals.Globals.{Globals}
@@ -62,10 +62,10 @@ Stores g before after base key v outcome asked =
 
 -- ---- where a text may come
 
--- the outcome is a text, or the run error of one that is too long
+-- the outcome is a text, which each script may use, or the run error of one that is too long
 pub record MeansText (texts : List Bytes) (outcome : Outcome) (bytes : Bytes) : Type 0 where
   pub meant : meant_outcome texts outcome ≡ bounded_text bytes
-  pub usable : OfOutcome texts (HasText texts) outcome
+  pub usable : (a : ArenaView) (w : Owner) → OfOutcome texts (MayUse texts a w) outcome
 
 -- The outcome is what the definition chooses, by the texts after; the script's part is as before, and the script may use each value
 -- in the outcome.

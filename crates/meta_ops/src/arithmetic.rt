@@ -10,15 +10,15 @@ ghost use Rattle.value_model.specs.Choices.{Arith};
 ghost use Rattle.value_model.specs.Metamethods as model;
 ghost use Rattle.value_model.specs.Operators.{calculated};
 ghost use Rattle.value_model.specs.Parts.{meant};
-ghost use Rattle.whole_num.specs.NumberTexts.{number_of};
 
 use crate::metamethod::{kind_of, metamethod, metamethod_of_two};
 use crate::outcome::{Outcome, call_one_or, call_two_or};
 use byte_text::{Interner, StrId};
+use lib_arguments::as_number;
 use luau_tables::{Globals, MetaNames};
 use value_arena::Arena;
 use value_model::{ArithOp, RunErr, Value};
-use whole_num::{Read, Stop, Whole, read};
+use whole_num::{Read, Stop, Whole};
 
 /// The result of an arithmetic operator. `Unm` does not look at `b`.
 ///
@@ -94,23 +94,11 @@ fn of_two(
 }
 
 // The number that a value is or is read as, or its stop; none where it is no number.
-#[tactic(auto, unfolding(value_model::specs::Metamethods::as_number, value_model::specs::Parts::meant))]
 fn number(names: &Interner, v: &Value) -> Option<Result<Whole, Stop>>
     requires { HasText names.now v.now }
     ensures { result ≡ model.as_number (meant names.now v.now) }
 {
-    match v {
-        Value::Num(whole) => Some(Ok(*whole)),
-        Value::Str(id) => found(read(names.bytes(*id))),
-        _ => None,
-    }
-}
-
-// What was read.
-fn found(number: Read) -> Option<Result<Whole, Stop>>
-    ensures { result ≡ number_of number }
-{
-    match number {
+    match as_number(names, v) {
         Read::Whole(whole) => Some(Ok(whole)),
         Read::NotWhole => Some(Err(Stop::NotWhole)),
         Read::OutOfRange => Some(Err(Stop::OutOfRange)),

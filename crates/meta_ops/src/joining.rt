@@ -1,6 +1,6 @@
 //! Concatenation.
 
-ghost use Rattle.std.specs.Prelude.{◌≡◌, ◌++◌, ◌≤◌, length, slice_get, OnOk, IfOk, Some};
+ghost use Rattle.std.specs.Prelude.{◌≡◌, ◌++◌, OnOk, IfOk};
 ghost use Rattle.luau_tables.specs.Own.{AreTexts, HasText, IsThere, MayUse};
 ghost use Rattle.luau_tables.specs.Worlds.{Extends};
 ghost use Rattle.meta_ops.specs.OnIds as kept;
@@ -11,7 +11,8 @@ ghost use Rattle.value_model.specs.Parts.{meant};
 
 use crate::metamethod::{kind_of, metamethod_of_two};
 use crate::outcome::{Outcome, call_two_or};
-use byte_text::{Interner, StrId};
+use byte_text::Interner;
+use lib_arguments::text_value;
 use luau_tables::Globals;
 use resource::OutOfMemory;
 use std::alloc::Global;
@@ -46,15 +47,31 @@ pub fn concat(
     ensures texts { AreTexts names.old → AreTexts names.new }
 {
     let (left, right) = (&a, &b);
-    if is_text(left) && is_text(right) {
+    if are_texts(left, right) {
         return joined(alloc, names, left, right);
     }
-    let handler = metamethod_of_two(arena, globals, left, right, globals.meta.concat);
-    let error = Outcome::RunError(RunErr::Concatenate {
-        left: kind_of(left),
-        right: kind_of(right),
-    });
-    Ok(call_two_or(&handler, left, right, error))
+    Ok(not_joined(arena, globals, left, right))
+}
+
+// Two operands that are not both texts.
+fn not_joined(arena: &Arena, globals: &Globals, a: &Value, b: &Value) -> Outcome
+    requires owned { IsOwned arena.now }
+    requires strings { HasTable arena.now globals.now.string_meta }
+    requires a { IsThere arena.now a.now }
+    requires b { IsThere arena.now b.now }
+    ensures { result ≡ kept.not_joined arena.now globals.now a.now b.now }
+{
+    let handler = metamethod_of_two(arena, globals, a, b, globals.meta.concat);
+    let (left, right) = (kind_of(a), kind_of(b));
+    let error = Outcome::RunError(RunErr::Concatenate { left, right });
+    call_two_or(&handler, a, b, error)
+}
+
+// Whether two values are strings or numbers.
+fn are_texts(a: &Value, b: &Value) -> bool
+    ensures { result ≡ kept.are_texts a.now b.now }
+{
+    is_text(a) && is_text(b)
 }
 
 // Whether a value is a string or a number.
@@ -107,14 +124,4 @@ fn bounded(names: &mut Interner, bytes: &[u8]) -> Result<Outcome, OutOfMemory>
     }
     let id = text_value(names, bytes)?;
     Ok(Outcome::Done(Value::Str(id)))
-}
-
-// The number of a text, which may be a new one.
-fn text_value(names: &mut Interner, bytes: &[u8]) -> Result<StrId, OutOfMemory>
-    requires { length bytes.now ≤ 16777216 }
-    ensures text { IfOk result (λ id. slice_get names.new id.0 ≡ Some bytes.now) }
-    ensures extends { Extends names.old names.new }
-    ensures texts { AreTexts names.old → AreTexts names.new }
-{
-    names.intern(bytes)
 }
