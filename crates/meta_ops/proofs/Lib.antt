@@ -4,4 +4,5 @@ pub mod IndexKept
 pub mod JoiningKept
 pub mod MetamethodsKept
 pub mod OperatorsKept
+pub mod StoringKept
 pub mod There

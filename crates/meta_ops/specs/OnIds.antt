@@ -151,10 +151,16 @@ abbrev pub unpaid : Target → ℕ
 unpaid (Into t) = 1
 unpaid (NoTable o) = 0
 
+-- the table that is written
+abbrev pub OfTarget : (TableId → Type 0) → Target → Type 0
+OfTarget P (Into t) = P t
+OfTarget P (NoTable o) = Unit {0}
+
 -- what comes of the write itself; a frozen table is refused before a nil key
-abbrev pub write_outcome : (is_frozen : Bool) → (key : Value) → Outcome
-write_outcome true key = RunError err.ReadonlyTable
-write_outcome false key = cond (is_nil key) (RunError err.NilKey) (Done Nil)
+abbrev pub write_outcome : (is_frozen is_nil_key : Bool) → Outcome
+write_outcome true is_nil_key = RunError err.ReadonlyTable
+write_outcome false true = RunError err.NilKey
+write_outcome false false = Done Nil
 
 abbrev pub write_arena : ArenaView → TableId → Value → Value → Outcome → ArenaView
 write_arena a t key v (Done done) = with_table a t (put (table_at a t) key v)

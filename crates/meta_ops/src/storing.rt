@@ -75,7 +75,7 @@ fn written<L: Ledger>(
     steps: &mut Steps<L>,
 ) -> Result<Outcome, OutOfMemory>
     requires { HasTable arena.old t }
-    ensures written { IfOk result (λ outcome. (outcome ≡ kept.write_outcome (table_at arena.old t).is_frozen key.now) × (arena.new ≡ kept.write_arena arena.old t key.now v.now outcome)) }
+    ensures written { IfOk result (λ outcome. (outcome ≡ kept.write_outcome (table_at arena.old t).is_frozen (kept.is_nil key.now)) × (arena.new ≡ kept.write_arena arena.old t key.now v.now outcome)) }
     ensures err { OnErr result (arena.new ≡ arena.old) }
     ensures grows { Grows arena.old arena.new }
     ensures ticks { steps.new ≡ steps.old + 1 }
@@ -132,6 +132,7 @@ fn writes_into<L: Ledger>(
     requires owned { IsOwned arena.now }
     requires there { IsThere arena.now first.now }
     ensures value { result ≡ kept.newindex_along 101 arena.now globals.now key.now v.now 0 first.now }
+    ensures there { kept.OfTarget (HasTable arena.now) result.0 }
     ensures ticks { steps.new + kept.unpaid result.0 ≡ steps.old + result.1 }
 {
     let mut base = *first;

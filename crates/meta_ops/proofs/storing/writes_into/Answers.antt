@@ -20,6 +20,10 @@ returns-in-Here-clause-value g c =
     newindex_here c.args.arena.now c.args.globals.now c.args.key.now c.args.v.now c.loop-asked.asked c.loop-asked.base c.as_table.result c.in-Some.t c.newindex_asked.result c.loop-asked-test.true c.as_table.ensures c.in-Some.is c.newindex_asked.ensures c.in-Here.is
     ∙ sym c.loop-asked.invariant.value
 
+pub returns-in-Here-clause-there : goal.returns-in-Here-clause-there
+returns-in-Here-clause-there g c =
+    place_of_some c.args.arena.now c.requires.owned c.loop-asked.base c.as_table.result c.in-Some.t c.loop-asked.invariant.there c.as_table.ensures c.in-Some.is
+
 pub returns-in-Calls-clause-value : goal.returns-in-Calls-clause-value
 returns-in-Calls-clause-value g c =
     newindex_calls c.args.arena.now c.args.globals.now c.args.key.now c.args.v.now c.loop-asked.asked c.loop-asked.base c.as_table.result c.in-Some.t c.newindex_asked.result c.in-Calls.outcome c.loop-asked-test.true c.as_table.ensures c.in-Some.is c.newindex_asked.ensures c.in-Calls.is
