@@ -1,5 +1,5 @@
 -- Chains of tables, one table more.
-use Rattle.std.proofs.Common.{◌≡◌, ℕ, zero, suc, ◌+◌, ◌-◌, ◌<◌, Bool, true, false, cond, Option, Some, None, refl, sym, ◌∙◌, ap, subst, arith}
+use Rattle.std.proofs.Common.{◌≡◌, ℕ, suc, ◌+◌, ◌-◌, ◌<◌, Bool, true, false, cond, Option, Some, None, refl, sym, ◌∙◌, ap, arith}
 use Rattle.value_model.specs.declared.error.RunErr.TheVariants as err
 use Rattle.value_model.specs.declared.ids.TableId.{TableId}
 use Rattle.value_model.specs.declared.value.Value.{Value}

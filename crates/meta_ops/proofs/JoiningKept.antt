@@ -1,12 +1,12 @@
 -- Two values joined mean what those that they mean are joined to.
-use Rattle.std.proofs.Common.{◌≡◌, ℕ, ◌<◌, ◌≤◌, Bool, true, false, cond, ◌&&◌, nat_le, List, [], ◌∷◌, ◌++◌, length, Option, Some, None, Result, Ok, Err, IfOk, slice_get, codes, refl, sym, ◌∙◌, ap, subst, arith}
+use Rattle.std.proofs.Common.{◌≡◌, ℕ, ◌<◌, ◌≤◌, Bool, true, false, cond, ◌&&◌, nat_le, List, ◌++◌, length, Option, Some, None, Result, Ok, Err, IfOk, slice_get, codes, refl, sym, ◌∙◌, ap, subst, arith}
 use Rattle.std.proofs.lemmas.Bool.Decides.{nat_tests}
 use Rattle.byte_text.specs.declared.fixed.StrId.{StrId}
 use Rattle.resource.specs.declared.memory.OutOfMemory.{OutOfMemory}
 use Rattle.value_model.specs.Choices as choice
 use Rattle.value_model.specs.Errors as error
 use Rattle.value_model.specs.Metamethods as model
-use Rattle.value_model.specs.Parts.{meant, meant_error, bytes_at}
+use Rattle.value_model.specs.Parts.{meant, meant_error}
 use Rattle.value_model.specs.Store.{Store}
 use Rattle.value_model.specs.Values as m
 use Rattle.value_model.specs.Values.{Bytes}
@@ -48,8 +48,8 @@ unfolding meant_outcome meant
 text_done texts id bytes h e =
     record {
       meant =
-        ap (λ t. choice.Done (m.Text t)) (text_is texts id.0 bytes e)
-        ∙ ap (λ b. cond b (choice.Done (m.Text bytes)) (choice.Errs error.StringTooLarge)) (sym (not_long (length bytes) h));
+          ap (λ t. choice.Done (m.Text t)) (text_is texts id.0 bytes e)
+          ∙ ap (λ b. cond b (choice.Done (m.Text bytes)) (choice.Errs error.StringTooLarge)) (sym (not_long (length bytes) h));
       usable = λ a w. (tt, number_below texts id.0 bytes e);
     }
 
@@ -78,9 +78,9 @@ joined_is before after g a w own extends texts v u e outcome n =
     let text : (v : Value) → kept.is_text v ≡ true → model.as_text (meant before v) ≡ Some (kept.text_of before v) = λ v h. as_text_kept before v ∙ ap (λ b. cond b (Some (kept.text_of before v)) None) h in
     record {
       meant =
-        ap (λ s. model.chosen s 0 (meant_outcome after outcome)) (store_more before after extends g a w own)
-        ∙ ap (λ o. model.chosen (store_of before g a w) 0 o) n.meant
-        ∙ sym (concat_by (store_of before g a w) (meant before v) (meant before u) (Some (kept.text_of before v)) (Some (kept.text_of before u)) (text v both.0) (text u both.1));
+          ap (λ s. model.chosen s 0 (meant_outcome after outcome)) (store_more before after extends g a w own)
+          ∙ ap (λ o. model.chosen (store_of before g a w) 0 o) n.meant
+          ∙ sym (concat_by (store_of before g a w) (meant before v) (meant before u) (Some (kept.text_of before v)) (Some (kept.text_of before u)) (text v both.0) (text u both.1));
       usable = n.usable a w;
       own = more_texts before after extends g a w (texts own.interned) own;
     }
@@ -104,9 +104,9 @@ module _ (texts : List Bytes) (g : Globals) (a : ArenaView) (w : Owner) (own : I
       let n = asks v u h k (kept.is_text v) (kept.is_text u) (kept.text_of texts v) (kept.text_of texts u) e in
       record {
         meant =
-          ap (λ o. model.chosen (store_of texts g a w) 0 (meant_outcome texts o)) f
-          ∙ ap (λ o. model.chosen (store_of texts g a w) 0 o) (sym n.meant)
-          ∙ sym (concat_by (store_of texts g a w) (meant texts v) (meant texts u) _ _ (as_text_kept texts v) (as_text_kept texts u));
+            ap (λ o. model.chosen (store_of texts g a w) 0 (meant_outcome texts o)) f
+            ∙ ap (λ o. model.chosen (store_of texts g a w) 0 o) (sym n.meant)
+            ∙ sym (concat_by (store_of texts g a w) (meant texts v) (meant texts u) _ _ (as_text_kept texts v) (as_text_kept texts u));
         usable = subst (λ o. OfOutcome texts (MayUse texts a w) o) (sym f) n.usable;
         own = own;
       }

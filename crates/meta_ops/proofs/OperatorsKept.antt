@@ -1,5 +1,5 @@
 -- Operators on values that a script may use mean those on the values that they mean.
-use Rattle.std.proofs.Common.{◌≡◌, ℕ, ℤ, pos, Bool, true, false, cond, not, ◌&&◌, List, [], ◌∷◌, Option, Some, None, Result, Ok, Err, slice_get, codes, refl, sym, ◌∙◌, ap, subst}
+use Rattle.std.proofs.Common.{◌≡◌, ℤ, pos, Bool, true, false, cond, not, ◌&&◌, List, [], ◌∷◌, Option, Some, None, Result, Ok, Err, slice_get, codes, refl, sym, ◌∙◌, ap, subst}
 use Rattle.std.specs.Prelude.{int_lt, int_le, if◌then◌else◌}
 use Rattle.byte_text.specs.declared.fixed.StrId.{StrId}
 use Rattle.value_model.specs.Choices as choice
@@ -24,7 +24,7 @@ use Rattle.value_model.specs.declared.value.Value.{Value}
 use Rattle.value_model.specs.declared.value.Value.TheVariants as value
 use Rattle.whole_num.specs.NumberTexts.{ReadNumber}
 use Rattle.whole_num.specs.declared.arithmetic.Stop.{Stop}
-use Rattle.value_arena.specs.Arenas.{ArenaView, table_at}
+use Rattle.value_arena.specs.Arenas.{ArenaView}
 use Rattle.value_arena.specs.Tables as tables
 use Rattle.luau_tables.specs.Own.{IsOwn, MayUse}
 use Rattle.luau_tables.specs.Part.{store_of}
@@ -193,7 +193,7 @@ module _ (texts : List Bytes) (g : Globals) (a : ArenaView) (w : Owner) (own : I
   equal_means v u h k =
       let asks : Means texts a w (model.call_or_else (model.metamethod_of_two part (meant texts v) (meant texts u) (codes "__eq")) (meant texts v ∷ meant texts u ∷ []) (choice.Done (m.Boolean false))) (kept.different a g v u) = two g.meta.eq (codes "__eq") own.globals.names.eq v u h k _ _ (answered false) in
       by (kept.both_tables v u) (same (meant texts v) (meant texts u)) (tables.same v u) (model.is_different_table (meant texts v) (meant texts u)) (different_is texts v u)
-        (same_kept texts w own.interned.distinct v u (own_value texts g a w own v h) (own_value texts g a w own u k)) _ _ asks
+      (same_kept texts w own.interned.distinct v u (own_value texts g a w own v h) (own_value texts g a w own u k)) _ _ asks
     where
       by : (both s t d : Bool) → d ≡ (both && not s) → s ≡ t → (p : choice.Outcome) (o : Outcome) → Means texts a w p o → Means texts a w (if d then p else choice.Done (m.Boolean s)) (cond t (kept.answer true) (cond both o (kept.answer false)))
       by true true t d e f p o n = rw (e, ← f) (answered true)

@@ -1,5 +1,5 @@
 -- Writing under a key, of values that a script may use, means writing of those that they mean.
-use Rattle.std.proofs.Common.{◌≡◌, ℕ, zero, suc, Bool, true, false, cond, List, [], ◌∷◌, Option, Some, None, Result, Ok, Err, codes, refl, sym, ◌∙◌, ap, subst}
+use Rattle.std.proofs.Common.{◌≡◌, ℕ, zero, suc, Bool, true, false, cond, List, Option, Some, None, Ok, Err, codes, refl, sym, ◌∙◌, ap, subst}
 use Rattle.std.specs.Prelude.{option_map, if◌then◌else◌}
 use Rattle.value_model.specs.Choices as choice
 use Rattle.value_model.specs.Errors as error
@@ -13,7 +13,7 @@ use Rattle.value_model.specs.declared.ids.Owner.{Owner}
 use Rattle.value_model.specs.declared.ids.TableId.{TableId}
 use Rattle.value_model.specs.declared.value.Value.{Value}
 use Rattle.value_model.specs.declared.value.Value.TheVariants as value
-use Rattle.value_arena.specs.Arenas.{ArenaView, HasTable, table_at, with_table}
+use Rattle.value_arena.specs.Arenas.{ArenaView, table_at}
 use Rattle.luau_tables.specs.Own.{IsOwn, MayUse}
 use Rattle.luau_tables.specs.Part.{OfSome, store_of}
 use Rattle.luau_tables.specs.Rules as rule
@@ -26,7 +26,6 @@ use Rattle.meta_ops.specs.OnIds as kept
 use Rattle.meta_ops.specs.OnIds.{Sought}
 use Rattle.meta_ops.specs.Outcomes.{meant_outcome, IsStored, OfOutcome}
 use Rattle.meta_ops.specs.declared.outcome.Outcome.{Outcome}
-use Rattle.meta_ops.specs.declared.outcome.Outcome.TheVariants.{Done, RunError}
 use Rattle.meta_ops.specs.declared.storing.Target.{Target}
 use Rattle.meta_ops.specs.declared.storing.Target.TheVariants.{Into, NoTable}
 use Rattle.meta_ops.specs.declared.storing.StoreLink.TheVariants.{Here, Calls, Onward}
@@ -171,8 +170,8 @@ module _ (texts : List Bytes) (g : Globals) (a : ArenaView) (w : Owner) (own : I
     written_by t asked false false h k l e f =
         record {
           meant =
-            ap (λ s. record { outcome = choice.Done m.Nil; asked = asked; store = s }) (put_part texts g a w own t key v h k)
-            ∙ set_is asked t false false h e f;
+              ap (λ s. record { outcome = choice.Done m.Nil; asked = asked; store = s }) (put_part texts g a w own t key v h k)
+              ∙ set_is asked t false false h e f;
           usable = (tt, tt);
           owns = put_own texts g a w own t key v h e k l;
           changes = put_changes texts g a w own t key v h e;

@@ -1,5 +1,5 @@
 -- What a table leads to that is there is there, where each object refers to objects that are there.
-use Rattle.std.proofs.Common.{◌≡◌, Bool, true, false, cond, List, [], ◌∷◌, Option, Some, None, IfSome, sym, ◌∙◌, subst}
+use Rattle.std.proofs.Common.{◌≡◌, Bool, true, false, cond, [], ◌∷◌, Option, Some, None, IfSome, sym, ◌∙◌, subst}
 use Rattle.std.specs.List.{AllByRecursion}
 use Rattle.byte_text.specs.declared.fixed.StrId.{StrId}
 use Rattle.value_model.specs.Owners.{wide}

@@ -82,12 +82,7 @@ fn is_text(v: &Value) -> bool
 }
 
 // Two texts joined.
-fn joined(
-    alloc: Global,
-    names: &mut Interner,
-    a: &Value,
-    b: &Value,
-) -> Result<Outcome, OutOfMemory>
+fn joined(alloc: Global, names: &mut Interner, a: &Value, b: &Value) -> Result<Outcome, OutOfMemory>
     requires a { HasText names.old a.now }
     requires b { HasText names.old b.now }
     ensures joined { IfOk result (λ outcome. MeansText names.new outcome (kept.text_of names.old a.now ++ kept.text_of names.old b.now)) }

@@ -42,7 +42,9 @@ fn length_of(arena: &Arena, globals: &Globals, names: &Interner, a: &Value) -> O
     match a {
         Value::Str(id) => Outcome::Done(count(names.bytes(*id).len())),
         Value::Table(t) => table_length(arena, globals, *t),
-        _ => Outcome::RunError(RunErr::LengthOf { operand: kind_of(a) }),
+        _ => Outcome::RunError(RunErr::LengthOf {
+            operand: kind_of(a),
+        }),
     }
 }
 

@@ -9,17 +9,17 @@ use Rattle.meta_ops.proofs.comparing.compare.Goals as goal
 pub returns-in-Eq : goal.returns-in-Eq
 returns-in-Eq c =
     λ w own may.
-      let P : CompareOp → Type 0 = λ o. IsChosen c.args.names.now c.args.globals.now c.args.arena.now w (choice.Compare o (meant c.args.names.now c.args.a) (meant c.args.names.now c.args.b)) c.equal.result 0 in
-      subst P (sym c.in-Eq.is) (equal_chosen c.args.names.now c.args.globals.now c.args.arena.now w own c.args.a c.args.b may.0 may.1 c.equal.result c.equal.ensures)
+    let P : CompareOp → Type 0 = λ o. IsChosen c.args.names.now c.args.globals.now c.args.arena.now w (choice.Compare o (meant c.args.names.now c.args.a) (meant c.args.names.now c.args.b)) c.equal.result 0 in
+    subst P (sym c.in-Eq.is) (equal_chosen c.args.names.now c.args.globals.now c.args.arena.now w own c.args.a c.args.b may.0 may.1 c.equal.result c.equal.ensures)
 
 pub returns-in-Lt : goal.returns-in-Lt
 returns-in-Lt c =
     λ w own may.
-      let P : CompareOp → Type 0 = λ o. IsChosen c.args.names.now c.args.globals.now c.args.arena.now w (choice.Compare o (meant c.args.names.now c.args.a) (meant c.args.names.now c.args.b)) c.less.result 0 in
-      subst P (sym c.in-Lt.is) (less_chosen c.args.names.now c.args.globals.now c.args.arena.now w own c.args.a c.args.b may.0 may.1 c.less.result c.less.ensures)
+    let P : CompareOp → Type 0 = λ o. IsChosen c.args.names.now c.args.globals.now c.args.arena.now w (choice.Compare o (meant c.args.names.now c.args.a) (meant c.args.names.now c.args.b)) c.less.result 0 in
+    subst P (sym c.in-Lt.is) (less_chosen c.args.names.now c.args.globals.now c.args.arena.now w own c.args.a c.args.b may.0 may.1 c.less.result c.less.ensures)
 
 pub returns-in-Le : goal.returns-in-Le
 returns-in-Le c =
     λ w own may.
-      let P : CompareOp → Type 0 = λ o. IsChosen c.args.names.now c.args.globals.now c.args.arena.now w (choice.Compare o (meant c.args.names.now c.args.a) (meant c.args.names.now c.args.b)) c.less_or_equal.result 0 in
-      subst P (sym c.in-Le.is) (less_or_equal_chosen c.args.names.now c.args.globals.now c.args.arena.now w own c.args.a c.args.b may.0 may.1 c.less_or_equal.result c.less_or_equal.ensures)
+    let P : CompareOp → Type 0 = λ o. IsChosen c.args.names.now c.args.globals.now c.args.arena.now w (choice.Compare o (meant c.args.names.now c.args.a) (meant c.args.names.now c.args.b)) c.less_or_equal.result 0 in
+    subst P (sym c.in-Le.is) (less_or_equal_chosen c.args.names.now c.args.globals.now c.args.arena.now w own c.args.a c.args.b may.0 may.1 c.less_or_equal.result c.less_or_equal.ensures)

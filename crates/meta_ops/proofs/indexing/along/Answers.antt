@@ -1,4 +1,4 @@
-use Rattle.std.proofs.Common.{◌≡◌, ◌+◌, sym, ◌∙◌, ap, arith}
+use Rattle.std.proofs.Common.{sym, ◌∙◌, ap, arith}
 use Rattle.meta_ops.specs.declared.outcome.Outcome.TheVariants.{RunError}
 use Rattle.meta_ops.proofs.Chains.{index_none, index_ends, index_to, index_end}
 use Rattle.meta_ops.proofs.There.{table_of_some, next_of_link}
@@ -23,8 +23,8 @@ pub loop-asked-preserved : goal.loop-asked-preserved
 loop-asked-preserved g c =
     record {
       value =
-        c.loop-asked.invariant.value
-        ∙ index_to c.args.arena.now c.args.globals.now c.args.key.now c.loop-asked.asked c.loop-asked.base c.indexed_table.result c.in-Some.t c.index_asked.result c.in-To.next c.loop-asked-test.true c.indexed_table.ensures c.in-Some.is c.index_asked.ensures.link c.in-To.is;
+          c.loop-asked.invariant.value
+          ∙ index_to c.args.arena.now c.args.globals.now c.args.key.now c.loop-asked.asked c.loop-asked.base c.indexed_table.result c.in-Some.t c.index_asked.result c.in-To.next c.loop-asked-test.true c.indexed_table.ensures c.in-Some.is c.index_asked.ensures.link c.in-To.is;
       ticks = omega (arith, c.loop-asked.invariant.ticks, c.index_asked.ensures.ticks);
       there = next_of_link c.args.arena.now c.requires.owned c.args.globals.now c.in-Some.t c.args.key.now c.index_asked.result c.in-To.next c.index_asked.ensures.link c.in-To.is;
     }

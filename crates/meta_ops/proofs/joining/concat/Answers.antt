@@ -9,4 +9,4 @@ returns-then-are_texts-clause-joins c =
 pub returns-clause-joins : goal.returns-clause-joins
 returns-clause-joins c =
     λ w own may also.
-      not_joined_is c.args.names.now c.args.globals.now c.args.arena.now w own c.args.a c.args.b (sym c.are_texts.ensures ∙ c.if-are_texts.false) may also c.not_joined.result c.not_joined.ensures
+    not_joined_is c.args.names.now c.args.globals.now c.args.arena.now w own c.args.a c.args.b (sym c.are_texts.ensures ∙ c.if-are_texts.false) may also c.not_joined.result c.not_joined.ensures

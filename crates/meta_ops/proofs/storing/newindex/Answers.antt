@@ -13,9 +13,9 @@ written-requires g c =
 pub returns-in-NoTable-clause-stores : goal.returns-in-NoTable-clause-stores
 returns-in-NoTable-clause-stores g c =
     λ texts w own base key v.
-      none_stored texts c.args.globals.now c.args.arena.now w own c.args.key c.args.v c.args.base base key v c.writes_into-target.result c.writes_into-target.ensures.value c.in-NoTable.outcome c.in-NoTable.is
+    none_stored texts c.args.globals.now c.args.arena.now w own c.args.key c.args.v c.args.base base key v c.writes_into-target.result c.writes_into-target.ensures.value c.in-NoTable.outcome c.in-NoTable.is
 
 pub returns-in_ok-outcome-in-Into-clause-stores : goal.returns-in_ok-outcome-in-Into-clause-stores
 returns-in_ok-outcome-in-Into-clause-stores g c =
     λ texts w own base key v.
-      one_stored texts c.args.globals.now c.args.arena.now w own c.args.key c.args.v c.args.base base key v c.writes_into-target.result c.writes_into-target.ensures.value c.in-Into.t c.in-Into.is c.written.new.arena c.in_ok-outcome-in-Into.outcome c.in_ok-outcome-in-Into.ensures.written.0 c.in_ok-outcome-in-Into.ensures.written.1
+    one_stored texts c.args.globals.now c.args.arena.now w own c.args.key c.args.v c.args.base base key v c.writes_into-target.result c.writes_into-target.ensures.value c.in-Into.t c.in-Into.is c.written.new.arena c.in_ok-outcome-in-Into.outcome c.in_ok-outcome-in-Into.ensures.written.0 c.in_ok-outcome-in-Into.ensures.written.1

@@ -1,4 +1,4 @@
-use Rattle.std.proofs.Common.{◌≡◌, ◌+◌, sym, ◌∙◌, ap, arith}
+use Rattle.std.proofs.Common.{sym, ◌∙◌, ap, arith}
 use Rattle.meta_ops.specs.declared.outcome.Outcome.TheVariants.{RunError}
 use Rattle.meta_ops.specs.declared.storing.Target.TheVariants.{NoTable}
 use Rattle.meta_ops.proofs.Chains.{newindex_none, newindex_here, newindex_calls, newindex_onward, newindex_end}
@@ -33,8 +33,8 @@ pub loop-asked-preserved : goal.loop-asked-preserved
 loop-asked-preserved g c =
     record {
       value =
-        c.loop-asked.invariant.value
-        ∙ newindex_onward c.args.arena.now c.args.globals.now c.args.key.now c.args.v.now c.loop-asked.asked c.loop-asked.base c.as_table.result c.in-Some.t c.newindex_asked.result c.in-Onward.next c.loop-asked-test.true c.as_table.ensures c.in-Some.is c.newindex_asked.ensures c.in-Onward.is;
+          c.loop-asked.invariant.value
+          ∙ newindex_onward c.args.arena.now c.args.globals.now c.args.key.now c.args.v.now c.loop-asked.asked c.loop-asked.base c.as_table.result c.in-Some.t c.newindex_asked.result c.in-Onward.next c.loop-asked-test.true c.as_table.ensures c.in-Some.is c.newindex_asked.ensures c.in-Onward.is;
       ticks = omega arith;
       there = next_of_store c.args.arena.now c.requires.owned c.args.globals.now c.in-Some.t c.args.key.now c.args.v.now c.newindex_asked.result c.in-Onward.next c.newindex_asked.ensures c.in-Onward.is;
     }
