@@ -36,21 +36,25 @@ nil_for_absent texts args i h = ap row.or_nil (sym (absent_at texts args i h))
 
 pub missing_fails : (texts : List Bytes) (f : Builtin) (i : ℕ) (w : Wanted) → Fails texts (row.missing f i w) (RunError (err.MissingArgument (i + 1) f w))
 unfolding meant_error
-missing_fails texts f i w = ap (λ n. model.ErrsWith (error.MissingArgument n (name_in_errors f) w)) (sym (add-one i))
+missing_fails texts f i w = (ap (λ n. model.ErrsWith (error.MissingArgument n (name_in_errors f) w)) (sym (add-one i)), tt)
 
-pub invalid_fails : (texts : List Bytes) (f : Builtin) (i : ℕ) (w : Wanted) (v : m.Value) (k : Kind) → kind_of v ≡ k → Fails texts (row.invalid f i w v) (RunError (err.InvalidArgument (i + 1) f w k))
+pub invalid_fails : (texts : List Bytes) (f : Builtin) (i : ℕ) (w : Wanted) (v : m.Value) (k : Kind) → kind_of v ≡ k →
+    Fails texts (row.invalid f i w v) (RunError (err.InvalidArgument (i + 1) f w k))
 unfolding meant_error
-invalid_fails texts f i w v k h =
-    ap (λ n. model.ErrsWith (error.InvalidArgument n (name_in_errors f) w (kind_of v))) (sym (add-one i))
-    ∙ ap (λ k. model.ErrsWith (error.InvalidArgument (i + 1) (name_in_errors f) w k)) h
+invalid_fails texts f i w v k h = (
+  ap (λ n. model.ErrsWith (error.InvalidArgument n (name_in_errors f) w (kind_of v))) (sym (add-one i))
+      ∙ ap (λ k. model.ErrsWith (error.InvalidArgument (i + 1) (name_in_errors f) w k)) h,
+  tt,
+)
 
 pub range_fails : (texts : List Bytes) (f : Builtin) (i : ℕ) → Fails texts (row.out_of_range f i) (RunError (err.ArgumentOutOfRange (i + 1) f))
 unfolding meant_error
-range_fails texts f i = ap (λ n. model.ErrsWith (error.ArgumentOutOfRange n (name_in_errors f))) (sym (add-one i))
+range_fails texts f i = (ap (λ n. model.ErrsWith (error.ArgumentOutOfRange n (name_in_errors f))) (sym (add-one i)), tt)
 
-pub absent_fails : (texts : List Bytes) (f : Builtin) (i : ℕ) (w : Wanted) (args : List Value) → slice_get args i ≡ None → Checks {A = Value} texts (meant texts) (row.wanted_argument f i w (slice_get (map (meant texts) args) i)) (Err (RunError (err.MissingArgument (i + 1) f w)))
+pub absent_fails : (texts : List Bytes) (f : Builtin) (i : ℕ) (w : Wanted) (args : List Value) → slice_get args i ≡ None →
+    Checks {A = Value} texts (meant texts) (row.wanted_argument f i w (slice_get (map (meant texts) args) i)) (Err (RunError (err.MissingArgument (i + 1) f w)))
 absent_fails texts f i w args h go =
-    ap (λ o. row.wanted_argument f i w o go) (absent_at texts args i h) ∙ missing_fails texts f i w
+    subst (λ o. Fails texts (row.wanted_argument f i w o go) (RunError (err.MissingArgument (i + 1) f w))) (sym (absent_at texts args i h)) (missing_fails texts f i w)
 
 -- ---- a row that goes on with what an argument is
 

@@ -1,9 +1,8 @@
 -- How a call of a library function ends, by its row.
-use Rattle.std.specs.Prelude.{◌≡◌, List, Result, Ok, Err}
+use Rattle.std.specs.Prelude.{◌≡◌, List, ◌++◌, Result, Ok, Err}
 use Rattle.resource.specs.declared.memory.OutOfMemory.{OutOfMemory as NoMemory}
 use Rattle.value_model.specs.Answers as model
-use Rattle.value_model.specs.Parts.{IsKnown}
-use Rattle.value_model.specs.Values.{Bytes}
+use Rattle.value_model.specs.Store.{Store}
 use Rattle.value_model.specs.Waits.{Elsewise}
 use Rattle.value_model.specs.declared.value.Value.{Value}
 use Rattle.luau_tables.specs.Answers.{Answered}
@@ -15,17 +14,21 @@ use Rattle.lib_arguments.specs.Checks.{Fails}
 use Rattle.lib_arguments.specs.declared.ending.Ending.{Ending}
 use Rattle.lib_arguments.specs.declared.ending.Ending.TheVariants.{OutOfMemory, RunError, Stop}
 
--- the texts that a run error shows have numbers
-abbrev pub IsKnownEnding : (texts : List Bytes) → Ending → Type 0
-IsKnownEnding texts (RunError e) = IsKnown texts e
-IsKnownEnding texts e = Unit {0}
+-- A run error and a stop leave the store as it was.
+abbrev pub LeavesStore : Ending → (before after : Store) → Type 0
+LeavesStore OutOfMemory s s' = Unit {0}
+LeavesStore e s s' = s' ≡ s
 
--- Without values nothing is appended, and the store stays.
+-- Without values nothing is appended.
 pub record Ends (before after : LibWorld) (results_before results_after : List Value) (e : Ending) (row : model.LibAnswer) : Type 0 where
   pub results : results_after ≡ results_before
-  pub store : store_in after ≡ store_in before
+  pub store : LeavesStore e (store_in before) (store_in after)
   pub fails : Fails after.names row e
-  pub known : IsKnownEnding after.names e
+
+-- values are appended, or there is no memory for them
+abbrev pub Gives : (results_before results_after given : List Value) → Result (Unit {0}) Ending → Type 0
+Gives rs rs' vs (Ok done) = rs' ≡ rs ++ vs
+Gives rs rs' vs (Err e) = (e ≡ OutOfMemory) × (rs' ≡ rs)
 
 -- A call gives values or ends without, by its row
 abbrev pub Runs : (before after : LibWorld) → (results_before results_after : List Value) → Result (Unit {0}) Ending → (row : model.LibAnswer) → Type 0

@@ -15,4 +15,4 @@ pub use part_laws::{part_is_changed, part_is_kept, part_is_read};
 pub use plain::plain_into;
 pub use reading::{border, frozen, get, next};
 pub use refusal::{MetaErr, NextErr, SetErr};
-pub use writing::{set, set_meta};
+pub use writing::{set, set_meta, write};

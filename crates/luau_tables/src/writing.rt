@@ -34,6 +34,19 @@ pub fn set<L: Ledger>(
     ensures ticks { steps.new ≡ steps.old + 1 }
 {
     steps.tick();
+    write(arena, t, key, v)
+}
+
+/// Writes as `set` does, and counts no step.
+#[inline]
+pub fn write(arena: &mut Arena, t: TableId, key: Value, v: Value) -> Result<(), SetErr>
+    requires { HasTable arena.old t }
+    ensures answers { Answers (table_at arena.old t).is_frozen (is_nil key) result }
+    ensures ok { OnOk result (arena.new ≡ with_table arena.old t (rule.put (table_at arena.old t) key v)) }
+    ensures err { OnErr result (arena.new ≡ arena.old) }
+    ensures memory { result ≡ Err SetErr.OutOfMemory → (place_of key (table_at arena.old t).entries ≡ None) × (is_nil v ≡ false) }
+    ensures grows { Grows arena.old arena.new }
+{
     refuse(arena.table(t), &key)?;
     put(arena.table_mut(t), key, v)
 }
