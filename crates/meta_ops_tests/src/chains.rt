@@ -2,101 +2,350 @@
 
 ghost use Rattle.std.specs.Prelude.{◌≡◌, ◌<◌};
 
-use crate::world::{Operand, World};
+use crate::world::{Expected, Operand, World};
 use luau_tables::get;
-use meta_ops::{Outcome, index, newindex};
+use meta_ops::{index, newindex};
 use resource::Steps;
 use std::marker::Brand;
 use std::process::Abort;
 use std::sync::ledger::{Blank, Ledger};
 use std::test::Fail;
-use value_model::{Builtin, Kind, RunErr, Value};
+use value_model::{Builtin, Kind, RunErr};
 
 // A function that answers reads, and one that answers writes.
 const READER: Builtin = Builtin::Rawget;
+
 const WRITER: Builtin = Builtin::Rawset;
 
-// A number of tables, each of which is its own metatable. But for the first and the last one, each leads to the next.
-fn chain(rt: &impl AllocGlobal, tables: usize) -> Result<World, Fail> {
+// A read: what is indexed and the key, what it gives, and how many tables are asked.
+type Read = (Operand, Operand, Expected, u8);
+
+const READS: [Read; 11] = [
+    // A value that is there,
+    (
+        Operand::Table(1),
+        Operand::Number(1),
+        Expected::Gives(Operand::Text("x")),
+        1,
+    ),
+    // one that the last table has, and none.
+    (
+        Operand::Table(1),
+        Operand::Text("x"),
+        Expected::Gives(Operand::Number(7)),
+        3,
+    ),
+    (
+        Operand::Table(1),
+        Operand::Text("y"),
+        Expected::Gives(Operand::Nil),
+        3,
+    ),
+    (
+        Operand::Table(3),
+        Operand::Text("y"),
+        Expected::Gives(Operand::Nil),
+        1,
+    ),
+    (
+        Operand::Table(1),
+        Operand::Nil,
+        Expected::Gives(Operand::Nil),
+        3,
+    ),
+    // A string is indexed through table 3.
+    (
+        Operand::Text("x"),
+        Operand::Text("x"),
+        Expected::Gives(Operand::Number(7)),
+        1,
+    ),
+    (
+        Operand::Text("x"),
+        Operand::Text("y"),
+        Expected::Gives(Operand::Nil),
+        1,
+    ),
+    // A link leads to a number.
+    (
+        Operand::Table(4),
+        Operand::Text("y"),
+        Expected::CannotIndex(Kind::Number, "y"),
+        1,
+    ),
+    // What cannot be indexed.
+    (
+        Operand::Nil,
+        Operand::Text("x"),
+        Expected::CannotIndex(Kind::Nil, "x"),
+        0,
+    ),
+    (
+        Operand::Number(1),
+        Operand::Number(1),
+        Expected::Errs(RunErr::IndexWith {
+            base: Kind::Number,
+            key: Kind::Number,
+        }),
+        0,
+    ),
+    (
+        Operand::Boolean(true),
+        Operand::Nil,
+        Expected::Errs(RunErr::IndexWith {
+            base: Kind::Boolean,
+            key: Kind::Nil,
+        }),
+        0,
+    ),
+];
+
+const LONG_READS: [Read; 5] = [
+    // 100 links,
+    (
+        Operand::Table(2),
+        Operand::Text("x"),
+        Expected::Gives(Operand::Number(7)),
+        101,
+    ),
+    (
+        Operand::Table(2),
+        Operand::Text("y"),
+        Expected::CallsWithTwo(READER, Operand::Table(102), Operand::Text("y")),
+        101,
+    ),
+    (
+        Operand::Table(101),
+        Operand::Text("y"),
+        Expected::CallsWithTwo(READER, Operand::Table(102), Operand::Text("y")),
+        2,
+    ),
+    // and 101.
+    (
+        Operand::Table(1),
+        Operand::Text("x"),
+        Expected::Errs(RunErr::IndexChain),
+        101,
+    ),
+    (
+        Operand::Table(1),
+        Operand::Text("y"),
+        Expected::Errs(RunErr::IndexChain),
+        101,
+    ),
+];
+
+// A write of 7: what is stored into and the key, what it gives, how many tables are asked, and what a table has under the key after it.
+type Write = (Operand, Operand, Expected, u8, u32, Operand);
+
+const WRITES: [Write; 12] = [
+    // No table has a value under the key: the last one gets it.
+    (
+        Operand::Table(1),
+        Operand::Number(1),
+        Expected::Gives(Operand::Nil),
+        3,
+        3,
+        Operand::Number(7),
+    ),
+    // The last one has a value,
+    (
+        Operand::Table(1),
+        Operand::Number(2),
+        Expected::Gives(Operand::Nil),
+        3,
+        3,
+        Operand::Number(7),
+    ),
+    // and the first one.
+    (
+        Operand::Table(1),
+        Operand::Text("__index"),
+        Expected::Gives(Operand::Nil),
+        1,
+        1,
+        Operand::Number(7),
+    ),
+    // A function is asked where there is none.
+    (
+        Operand::Table(6),
+        Operand::Number(1),
+        Expected::Gives(Operand::Nil),
+        1,
+        6,
+        Operand::Number(7),
+    ),
+    (
+        Operand::Table(6),
+        Operand::Number(3),
+        Expected::CallsWithThree(
+            WRITER,
+            Operand::Table(6),
+            Operand::Number(3),
+            Operand::Number(7),
+        ),
+        1,
+        6,
+        Operand::Nil,
+    ),
+    // A frozen table is refused before a nil key.
+    (
+        Operand::Table(4),
+        Operand::Number(1),
+        Expected::Errs(RunErr::ReadonlyTable),
+        1,
+        4,
+        Operand::Nil,
+    ),
+    (
+        Operand::Table(4),
+        Operand::Nil,
+        Expected::Errs(RunErr::ReadonlyTable),
+        1,
+        4,
+        Operand::Nil,
+    ),
+    (
+        Operand::Table(3),
+        Operand::Nil,
+        Expected::Errs(RunErr::NilKey),
+        1,
+        3,
+        Operand::Nil,
+    ),
+    (
+        Operand::Table(1),
+        Operand::Nil,
+        Expected::Errs(RunErr::NilKey),
+        3,
+        3,
+        Operand::Nil,
+    ),
+    // What has no place to write to: a link leads to a number, a number, a string.
+    (
+        Operand::Table(5),
+        Operand::Number(1),
+        Expected::Errs(RunErr::IndexWith {
+            base: Kind::Number,
+            key: Kind::Number,
+        }),
+        1,
+        5,
+        Operand::Nil,
+    ),
+    (
+        Operand::Number(1),
+        Operand::Number(1),
+        Expected::Errs(RunErr::IndexWith {
+            base: Kind::Number,
+            key: Kind::Number,
+        }),
+        0,
+        1,
+        Operand::Nil,
+    ),
+    (
+        Operand::Text("x"),
+        Operand::Number(1),
+        Expected::Errs(RunErr::IndexWith {
+            base: Kind::String,
+            key: Kind::Number,
+        }),
+        0,
+        3,
+        Operand::Nil,
+    ),
+];
+
+const LONG_WRITES: [Write; 3] = [
+    // 100 links,
+    (
+        Operand::Table(2),
+        Operand::Number(1),
+        Expected::Gives(Operand::Nil),
+        101,
+        102,
+        Operand::Number(7),
+    ),
+    (
+        Operand::Table(101),
+        Operand::Number(1),
+        Expected::Gives(Operand::Nil),
+        2,
+        102,
+        Operand::Number(7),
+    ),
+    // and 101.
+    (
+        Operand::Table(1),
+        Operand::Number(1),
+        Expected::Errs(RunErr::NewindexChain),
+        101,
+        102,
+        Operand::Nil,
+    ),
+];
+
+const CALLED_WRITES: [Write; 1] = [(
+    Operand::Table(2),
+    Operand::Number(1),
+    Expected::CallsWithThree(
+        WRITER,
+        Operand::Table(102),
+        Operand::Number(1),
+        Operand::Number(7),
+    ),
+    101,
+    102,
+    Operand::Nil,
+)];
+
+// So many tables from 1 on, each of which is its own metatable. But for the last one, each leads to the next.
+fn chain(rt: &impl AllocGlobal, last: u32) -> Result<World, Fail> {
     let mut world = World::new(rt)?;
-    let meta = world.globals.meta;
-    for _ in 1..=tables {
+    for _ in 0..last {
         let number = world.table()?;
         world.give(number, number);
     }
-    for number in 1..tables {
-        let next = Operand::Table(number + 1);
-        world.say(number, meta.index, next);
-        world.say(number, meta.newindex, next);
+    let meta = world.globals.meta;
+    for number in 1..last {
+        world.say(number, meta.index, Operand::Table(number + 1));
+        world.say(number, meta.newindex, Operand::Table(number + 1));
     }
     Ok(world)
 }
 
-// Reads a value under a key: the outcome, and how many tables were asked.
-fn reads<L: Ledger>(
-    rt: &impl Abort,
-    world: &World,
-    row: &(Operand, Operand, Outcome, u8),
-    blank: Blank,
-)
+// Reads a value under a key.
+fn reads<L: Ledger>(rt: &impl Abort, world: &mut World, row: &Read, blank: Blank)
     requires name { blank.name ≡ L.name }
     requires parts { blank.parts ≡ L.parts }
     requires some { 0 < L.parts }
 {
     let mut steps = Steps::<L>::new(blank);
-    let (base, key) = (world.value(row.0), world.value(row.1));
+    let (base, key) = world.pair(row.0, row.1);
     let given = index(&world.arena, &world.globals, base, key, &mut steps);
-    assert_eq!(rt; given, (row.2, row.3));
+    assert_eq!(rt; given, (world.outcome(row.2), row.3));
 }
 
-// A call with a table and a key, and a value that is written.
-fn call(world: &World, f: Builtin, table: usize, key: Operand, written: Option<Operand>) -> Outcome {
-    let (stored, count) = match written {
-        Some(v) => (world.value(v), 3),
-        None => (Value::Nil, 2),
-    };
-    Outcome::CallThis {
-        callee: Value::Native(f),
-        args: [Value::Table(world.id(table)), world.value(key), stored],
-        count,
-    }
+// Three tables that lead on to each other, and one whose `__index` is a number.
+fn to_read(rt: &impl AllocGlobal) -> Result<World, Fail> {
+    let mut world = chain(rt, 3)?;
+    let number = world.table()?;
+    let meta = world.globals.meta;
+    world.give(number, number);
+    world.say(number, meta.index, Operand::Number(1));
+    world.store(3, Operand::Text("x"), Operand::Number(7));
+    world.store(1, Operand::Number(1), Operand::Text("x"));
+    // Strings are indexed through table 3.
+    world.say(0, meta.index, Operand::Table(3));
+    Ok(world)
 }
 
 #[test]
 fn reading(rt: HostRuntime) -> Result<(), Fail> {
-    let mut world = chain(&rt, 3)?;
-    let meta = world.globals.meta;
-    let x = world.text("x")?;
-    let y = world.text("y")?;
-    let (one, seven) = (Operand::Number(1), Operand::Number(7));
-    // Table 3 is the last one of the chain, and table 4 has a number for its `__index`.
-    let four = world.table()?;
-    world.give(four, four);
-    world.say(four, meta.index, one);
-    world.store(3, x, seven);
-    world.store(1, one, x);
-    // Strings are indexed through table 3.
-    world.say(0, meta.index, Operand::Table(3));
-    let found = |v: Operand| Outcome::Done(world.value(v));
-    let by_name = |base: Kind, key: Operand| match world.value(key) {
-        Value::Str(key) => Outcome::RunError(RunErr::IndexWithName { base, key }),
-        _ => Outcome::Done(Value::Nil),
-    };
-    let by_kind = |base: Kind, key: Kind| Outcome::RunError(RunErr::IndexWith { base, key });
-    for row in &[
-        (Operand::Table(1), one, found(x), 1),
-        (Operand::Table(1), x, found(seven), 3),
-        (Operand::Table(1), y, found(Operand::Nil), 3),
-        (Operand::Table(3), y, found(Operand::Nil), 1),
-        (Operand::Table(1), Operand::Nil, found(Operand::Nil), 3),
-        (x, x, found(seven), 1),
-        (x, y, found(Operand::Nil), 1),
-        (Operand::Table(four), y, by_name(Kind::Number, y), 1),
-        (Operand::Nil, x, by_name(Kind::Nil, x), 0),
-        (one, one, by_kind(Kind::Number, Kind::Number), 0),
-        (Operand::Boolean(true), Operand::Nil, by_kind(Kind::Boolean, Kind::Nil), 0),
-    ] {
-        reads::<Brand>(&rt, &world, row, Blank::new(1));
+    let mut world = to_read(&rt)?;
+    for row in &READS {
+        reads::<Brand>(&rt, &mut world, row, Blank::new(1));
     }
     Ok(())
 }
@@ -105,128 +354,58 @@ fn reading(rt: HostRuntime) -> Result<(), Fail> {
 fn long_chains_of_reads(rt: HostRuntime) -> Result<(), Fail> {
     let mut world = chain(&rt, 102)?;
     let meta = world.globals.meta;
-    let x = world.text("x")?;
-    let y = world.text("y")?;
-    world.store(102, x, Operand::Number(7));
+    world.store(102, Operand::Text("x"), Operand::Number(7));
     world.say(102, meta.index, Operand::Function(READER));
-    let too_long = Outcome::RunError(RunErr::IndexChain);
-    let found = Outcome::Done(world.value(Operand::Number(7)));
-    for row in &[
-        // 100 links,
-        (Operand::Table(2), x, found, 101),
-        (Operand::Table(2), y, call(&world, READER, 102, y, None), 101),
-        (Operand::Table(101), y, call(&world, READER, 102, y, None), 2),
-        // and 101.
-        (Operand::Table(1), x, too_long, 101),
-        (Operand::Table(1), y, too_long, 101),
-    ] {
-        reads::<Brand>(&rt, &world, row, Blank::new(1));
+    for row in &LONG_READS {
+        reads::<Brand>(&rt, &mut world, row, Blank::new(1));
     }
     Ok(())
 }
 
-// A write, with what it is to give, how many tables it asks, and what a table has under the key after it.
-#[derive(Clone, Copy)]
-struct Write {
-    base: Operand,
-    key: Operand,
-    v: Operand,
-    outcome: Outcome,
-    asked: u8,
-    table: usize,
-    has: Operand,
-}
-
 // Writes a value under a key.
-fn writes<L: Ledger>(rt: &impl Abort, world: World, row: &Write, blank: Blank)
+fn writes<L: Ledger>(rt: &impl Abort, mut world: World, row: &Write, blank: Blank)
     requires name { blank.name ≡ L.name }
     requires parts { blank.parts ≡ L.parts }
     requires some { 0 < L.parts }
 {
     let mut steps = Steps::<L>::new(blank);
-    let (base, v) = (world.value(row.base), world.value(row.v));
-    let key = &world.value(row.key);
-    let (t, has) = (world.id(row.table), world.value(row.has));
+    let expected = world.outcome(row.2);
+    let has = world.value(row.5);
+    let (base, key) = world.pair(row.0, row.1);
+    let (v, _) = world.pair(Operand::Number(7), Operand::Nil);
+    let t = world.id(row.4);
+    let sought = &key;
     let World {
-        mut arena, globals, ..
+        mut arena,
+        globals,
+        ..
     } = world;
-    let given = newindex(&mut arena, &globals, base, *key, v, &mut steps);
-    assert_eq!(rt; given, Ok((row.outcome, row.asked)));
-    assert_eq!(rt; get(&arena, t, *key, &mut steps), has);
+    let given = newindex(&mut arena, &globals, base, *sought, v, &mut steps);
+    assert_eq!(rt; given, Ok((expected, row.3)));
+    assert_eq!(rt; get(&arena, t, *sought, &mut steps), has);
 }
 
-// Three tables that lead on to each other, of which the last one has a value under 2. Then one that is frozen, and one whose
-// `__newindex` is a number.
+// Three tables that lead on to each other, of which the last one has a value under 2. Then one that is frozen, one whose
+// `__newindex` is a number, and one with a function and a value under 1.
 fn to_write(rt: &impl AllocGlobal) -> Result<World, Fail> {
     let mut world = chain(rt, 3)?;
+    let frozen = world.table()?;
+    let number = world.table()?;
+    let function = world.table()?;
     let newindex = world.globals.meta.newindex;
     world.store(3, Operand::Number(2), Operand::Boolean(true));
-    let frozen = world.table()?;
     world.freeze(frozen);
-    let number = world.table()?;
     world.give(number, number);
     world.say(number, newindex, Operand::Number(1));
-    // The last one has a function, and a value under 1.
-    let function = world.table()?;
     world.give(function, function);
     world.say(function, newindex, Operand::Function(WRITER));
     world.store(function, Operand::Number(1), Operand::Number(1));
     Ok(world)
 }
 
-// A write that reaches a table.
-fn lands(base: usize, key: Operand, asked: u8, table: usize) -> Write {
-    Write {
-        base: Operand::Table(base),
-        key,
-        v: Operand::Number(7),
-        outcome: Outcome::Done(Value::Nil),
-        asked,
-        table,
-        has: Operand::Number(7),
-    }
-}
-
-// A write that reaches none: table 3 has nothing under the key.
-fn does_not(base: Operand, key: Operand, asked: u8, outcome: Outcome) -> Write {
-    Write {
-        base,
-        key,
-        v: Operand::Number(7),
-        outcome,
-        asked,
-        table: 3,
-        has: Operand::Nil,
-    }
-}
-
 #[test]
 fn writing(rt: HostRuntime) -> Result<(), Fail> {
-    let world = to_write(&rt)?;
-    let (one, two) = (Operand::Number(1), Operand::Number(2));
-    let three = Operand::Number(3);
-    let index = Operand::Text(world.globals.meta.index);
-    let called = call(&world, WRITER, 6, three, Some(Operand::Number(7)));
-    let by_kind = |base: Kind, key: Kind| Outcome::RunError(RunErr::IndexWith { base, key });
-    let refused = |error: RunErr| Outcome::RunError(error);
-    for row in &[
-        // No table has a value under the key: the last one gets it.
-        lands(1, one, 3, 3),
-        // The last one has a value,
-        lands(1, two, 3, 3),
-        // and the first one.
-        lands(1, index, 1, 1),
-        lands(6, one, 1, 6),
-        does_not(Operand::Table(6), three, 1, called),
-        does_not(Operand::Table(4), one, 1, refused(RunErr::ReadonlyTable)),
-        does_not(Operand::Table(4), Operand::Nil, 1, refused(RunErr::ReadonlyTable)),
-        does_not(Operand::Table(3), Operand::Nil, 1, refused(RunErr::NilKey)),
-        does_not(Operand::Table(1), Operand::Nil, 3, refused(RunErr::NilKey)),
-        does_not(Operand::Table(5), one, 1, by_kind(Kind::Number, Kind::Number)),
-        does_not(one, one, 0, by_kind(Kind::Number, Kind::Number)),
-        // A string has no place to write to.
-        does_not(index, one, 0, by_kind(Kind::String, Kind::Number)),
-    ] {
+    for row in &WRITES {
         writes::<Brand>(&rt, to_write(&rt)?, row, Blank::new(1));
     }
     Ok(())
@@ -234,25 +413,14 @@ fn writing(rt: HostRuntime) -> Result<(), Fail> {
 
 #[test]
 fn long_chains_of_writes(rt: HostRuntime) -> Result<(), Fail> {
-    let (one, last) = (Operand::Number(1), 102);
-    let too_long = Outcome::RunError(RunErr::NewindexChain);
-    for row in &[
-        // 100 links,
-        lands(2, one, 101, last),
-        lands(101, one, 2, last),
-        // and 101.
-        Write {
-            table: last,
-            ..does_not(Operand::Table(1), one, 101, too_long)
-        },
-    ] {
-        writes::<Brand>(&rt, chain(&rt, last)?, row, Blank::new(1));
+    for row in &LONG_WRITES {
+        writes::<Brand>(&rt, chain(&rt, 102)?, row, Blank::new(1));
     }
-    let mut world = chain(&rt, last)?;
-    let newindex = world.globals.meta.newindex;
-    world.say(last, newindex, Operand::Function(WRITER));
-    let called = call(&world, WRITER, last, one, Some(Operand::Number(7)));
-    let row = does_not(Operand::Table(2), one, 101, called);
-    writes::<Brand>(&rt, world, &row, Blank::new(1));
+    for row in &CALLED_WRITES {
+        let mut world = chain(&rt, 102)?;
+        let newindex = world.globals.meta.newindex;
+        world.say(102, newindex, Operand::Function(WRITER));
+        writes::<Brand>(&rt, world, row, Blank::new(1));
+    }
     Ok(())
 }

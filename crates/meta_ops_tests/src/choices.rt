@@ -1,6 +1,6 @@
 //! Tests of the operators, of lengths and of calls.
 
-use crate::world::{Operand, World};
+use crate::world::{Expected, Operand, World};
 use meta_ops::{ArithOp, CompareOp, Outcome, arith, call_target, compare, concat, length};
 use std::process::Abort;
 use std::test::Fail;
@@ -12,63 +12,21 @@ const PLAIN: Operand = Operand::Table(1);
 
 // A table with all metamethods but `__le`, and its metatable.
 const LEFT: Operand = Operand::Table(2);
-const LEFT_META: usize = 3;
+
+const LEFT_META: u32 = 3;
 
 // A table with another function for each metamethod, and its metatable.
 const RIGHT: Operand = Operand::Table(4);
-const RIGHT_META: usize = 5;
 
-// A table whose `__call` is a table.
+const RIGHT_META: u32 = 5;
+
+// A table whose `__call` is a table, and its metatable.
 const NO_CALL: Operand = Operand::Table(6);
-const NO_CALL_META: usize = 7;
+
+const NO_CALL_META: u32 = 7;
 
 // What the metamethods of the second table are.
 const OTHER: Builtin = Builtin::StringLen;
-
-// What an operation is to give.
-#[derive(Clone, Copy)]
-enum Expected {
-    Gives(Operand),
-    CallsWith(Builtin, Operand),
-    CallsWithTwo(Builtin, Operand, Operand),
-    Errs(RunErr),
-    Stops(Stop),
-}
-
-// The outcome.
-fn outcome(world: &World, expected: Expected) -> Outcome {
-    match expected {
-        Expected::Gives(v) => Outcome::Done(world.value(v)),
-        Expected::CallsWith(f, a) => Outcome::CallThis {
-            callee: Value::Native(f),
-            args: [world.value(a), Value::Nil, Value::Nil],
-            count: 1,
-        },
-        Expected::CallsWithTwo(f, a, b) => Outcome::CallThis {
-            callee: Value::Native(f),
-            args: [world.value(a), world.value(b), Value::Nil],
-            count: 2,
-        },
-        Expected::Errs(error) => Outcome::RunError(error),
-        Expected::Stops(stop) => Outcome::Stop(stop),
-    }
-}
-
-fn number(n: i64) -> Expected {
-    Expected::Gives(Operand::Number(n))
-}
-
-fn boolean(b: bool) -> Expected {
-    Expected::Gives(Operand::Boolean(b))
-}
-
-fn arithmetic_error(operator: ArithOp, left: Kind, right: Kind) -> Expected {
-    Expected::Errs(RunErr::Arithmetic {
-        operator,
-        left,
-        right,
-    })
-}
 
 // The tables.
 fn operands(rt: &impl AllocGlobal) -> Result<World, Fail> {
@@ -79,260 +37,677 @@ fn operands(rt: &impl AllocGlobal) -> Result<World, Fail> {
     world.give(2, LEFT_META);
     world.give(4, RIGHT_META);
     world.give(6, NO_CALL_META);
+    say_left(&mut world);
+    say_right(&mut world);
     let meta = world.globals.meta;
-    for (name, f) in &[
-        (meta.add, Builtin::MathAbs),
-        (meta.sub, Builtin::MathCeil),
-        (meta.mul, Builtin::MathFloor),
-        (meta.div, Builtin::MathRound),
-        (meta.idiv, Builtin::MathSign),
-        (meta.mod_, Builtin::MathMax),
-        (meta.pow, Builtin::MathMin),
-        (meta.unm, Builtin::MathClamp),
-        (meta.eq, Builtin::Rawequal),
-        (meta.lt, Builtin::Rawget),
-        (meta.concat, Builtin::StringRep),
-        (meta.len, Builtin::Rawlen),
-        (meta.call, Builtin::Print),
-    ] {
-        world.say(LEFT_META, *name, Operand::Function(*f));
-    }
-    for name in &[
-        meta.add,
-        meta.sub,
-        meta.mul,
-        meta.div,
-        meta.idiv,
-        meta.mod_,
-        meta.pow,
-        meta.unm,
-        meta.eq,
-        meta.lt,
-        meta.le,
-        meta.concat,
-        meta.len,
-        meta.call,
-    ] {
-        world.say(RIGHT_META, *name, Operand::Function(OTHER));
-    }
     world.say(NO_CALL_META, meta.call, LEFT);
     // Strings have a metatable too.
     world.say(0, meta.lt, Operand::Function(Builtin::StringByte));
     Ok(world)
 }
 
+// A function for each metamethod but `__le`.
+fn say_left(world: &mut World) {
+    let meta = world.globals.meta;
+    world.say(LEFT_META, meta.add, Operand::Function(Builtin::MathAbs));
+    world.say(LEFT_META, meta.sub, Operand::Function(Builtin::MathCeil));
+    world.say(LEFT_META, meta.mul, Operand::Function(Builtin::MathFloor));
+    world.say(LEFT_META, meta.div, Operand::Function(Builtin::MathRound));
+    world.say(LEFT_META, meta.idiv, Operand::Function(Builtin::MathSign));
+    world.say(LEFT_META, meta.mod_, Operand::Function(Builtin::MathMax));
+    world.say(LEFT_META, meta.pow, Operand::Function(Builtin::MathMin));
+    world.say(LEFT_META, meta.unm, Operand::Function(Builtin::MathClamp));
+    world.say(LEFT_META, meta.eq, Operand::Function(Builtin::Rawequal));
+    world.say(LEFT_META, meta.lt, Operand::Function(Builtin::Rawget));
+    world.say(
+        LEFT_META,
+        meta.concat,
+        Operand::Function(Builtin::StringRep),
+    );
+    world.say(LEFT_META, meta.len, Operand::Function(Builtin::Rawlen));
+    world.say(LEFT_META, meta.call, Operand::Function(Builtin::Print));
+}
+
+// One function for all metamethods.
+fn say_right(world: &mut World) {
+    let meta = world.globals.meta;
+    world.say(RIGHT_META, meta.add, Operand::Function(OTHER));
+    world.say(RIGHT_META, meta.sub, Operand::Function(OTHER));
+    world.say(RIGHT_META, meta.mul, Operand::Function(OTHER));
+    world.say(RIGHT_META, meta.div, Operand::Function(OTHER));
+    world.say(RIGHT_META, meta.idiv, Operand::Function(OTHER));
+    world.say(RIGHT_META, meta.mod_, Operand::Function(OTHER));
+    world.say(RIGHT_META, meta.pow, Operand::Function(OTHER));
+    world.say(RIGHT_META, meta.unm, Operand::Function(OTHER));
+    world.say(RIGHT_META, meta.eq, Operand::Function(OTHER));
+    world.say(RIGHT_META, meta.lt, Operand::Function(OTHER));
+    world.say(RIGHT_META, meta.le, Operand::Function(OTHER));
+    world.say(RIGHT_META, meta.concat, Operand::Function(OTHER));
+    world.say(RIGHT_META, meta.len, Operand::Function(OTHER));
+    world.say(RIGHT_META, meta.call, Operand::Function(OTHER));
+}
+
 // Each row is an operator, its operands and what it gives.
-fn arithmetic_gives(
-    rt: &impl Abort,
-    world: &World,
-    rows: &[(ArithOp, Operand, Operand, Expected)],
-) {
-    for (op, a, b, expected) in rows {
-        let (left, right) = (world.value(*a), world.value(*b));
-        let given = arith(&world.arena, &world.globals, &world.names, *op, left, right);
-        assert_eq!(rt; given, outcome(world, *expected));
-    }
+const CALCULATES: [(ArithOp, Operand, Operand, Expected); 17] = [
+    (
+        ArithOp::Add,
+        Operand::Number(7),
+        Operand::Number(-2),
+        Expected::Gives(Operand::Number(5)),
+    ),
+    (
+        ArithOp::Sub,
+        Operand::Number(7),
+        Operand::Number(-2),
+        Expected::Gives(Operand::Number(9)),
+    ),
+    (
+        ArithOp::Mul,
+        Operand::Number(7),
+        Operand::Number(-2),
+        Expected::Gives(Operand::Number(-14)),
+    ),
+    (
+        ArithOp::Div,
+        Operand::Number(6),
+        Operand::Number(-2),
+        Expected::Gives(Operand::Number(-3)),
+    ),
+    (
+        ArithOp::Div,
+        Operand::Number(7),
+        Operand::Number(-2),
+        Expected::Stops(Stop::NotWhole),
+    ),
+    (
+        ArithOp::Idiv,
+        Operand::Number(7),
+        Operand::Number(-2),
+        Expected::Gives(Operand::Number(-4)),
+    ),
+    (
+        ArithOp::Mod,
+        Operand::Number(7),
+        Operand::Number(-2),
+        Expected::Gives(Operand::Number(-1)),
+    ),
+    (
+        ArithOp::Pow,
+        Operand::Number(-2),
+        Operand::Number(7),
+        Expected::Gives(Operand::Number(-128)),
+    ),
+    (
+        ArithOp::Unm,
+        Operand::Number(7),
+        Operand::Nil,
+        Expected::Gives(Operand::Number(-7)),
+    ),
+    (
+        ArithOp::Unm,
+        Operand::Text(" 10 "),
+        Operand::Nil,
+        Expected::Gives(Operand::Number(-10)),
+    ),
+    (
+        ArithOp::Add,
+        Operand::Text("10"),
+        Operand::Number(7),
+        Expected::Gives(Operand::Number(17)),
+    ),
+    (
+        ArithOp::Add,
+        Operand::Number(7),
+        Operand::Text("0x0A"),
+        Expected::Gives(Operand::Number(17)),
+    ),
+    (
+        ArithOp::Add,
+        Operand::Text("1.5"),
+        Operand::Number(7),
+        Expected::Stops(Stop::NotWhole),
+    ),
+    (
+        ArithOp::Add,
+        Operand::Number(7),
+        Operand::Text("1e400"),
+        Expected::Stops(Stop::OutOfRange),
+    ),
+    (
+        ArithOp::Add,
+        Operand::Text("1.5"),
+        Operand::Text("1e400"),
+        Expected::Stops(Stop::NotWhole),
+    ),
+    (
+        ArithOp::Add,
+        Operand::Text("1e400"),
+        Operand::Text("1.5"),
+        Expected::Stops(Stop::OutOfRange),
+    ),
+    (
+        ArithOp::Unm,
+        Operand::Text("1.5"),
+        Operand::Number(7),
+        Expected::Stops(Stop::NotWhole),
+    ),
+];
+
+const ASKS_FOR_ARITHMETIC: [(ArithOp, Operand, Operand, Expected); 19] = [
+    (
+        ArithOp::Add,
+        LEFT,
+        RIGHT,
+        Expected::CallsWithTwo(Builtin::MathAbs, LEFT, RIGHT),
+    ),
+    (
+        ArithOp::Sub,
+        LEFT,
+        RIGHT,
+        Expected::CallsWithTwo(Builtin::MathCeil, LEFT, RIGHT),
+    ),
+    (
+        ArithOp::Mul,
+        LEFT,
+        RIGHT,
+        Expected::CallsWithTwo(Builtin::MathFloor, LEFT, RIGHT),
+    ),
+    (
+        ArithOp::Div,
+        LEFT,
+        RIGHT,
+        Expected::CallsWithTwo(Builtin::MathRound, LEFT, RIGHT),
+    ),
+    (
+        ArithOp::Idiv,
+        LEFT,
+        RIGHT,
+        Expected::CallsWithTwo(Builtin::MathSign, LEFT, RIGHT),
+    ),
+    (
+        ArithOp::Mod,
+        LEFT,
+        RIGHT,
+        Expected::CallsWithTwo(Builtin::MathMax, LEFT, RIGHT),
+    ),
+    (
+        ArithOp::Pow,
+        LEFT,
+        RIGHT,
+        Expected::CallsWithTwo(Builtin::MathMin, LEFT, RIGHT),
+    ),
+    (
+        ArithOp::Add,
+        LEFT,
+        Operand::Number(1),
+        Expected::CallsWithTwo(Builtin::MathAbs, LEFT, Operand::Number(1)),
+    ),
+    (
+        ArithOp::Add,
+        Operand::Number(1),
+        LEFT,
+        Expected::CallsWithTwo(Builtin::MathAbs, Operand::Number(1), LEFT),
+    ),
+    (
+        ArithOp::Sub,
+        PLAIN,
+        RIGHT,
+        Expected::CallsWithTwo(OTHER, PLAIN, RIGHT),
+    ),
+    (
+        ArithOp::Unm,
+        LEFT,
+        RIGHT,
+        Expected::Calls(Builtin::MathClamp, LEFT),
+    ),
+    (
+        ArithOp::Unm,
+        PLAIN,
+        RIGHT,
+        Expected::Errs(RunErr::Arithmetic {
+            operator: ArithOp::Unm,
+            left: Kind::Table,
+            right: Kind::Table,
+        }),
+    ),
+    (
+        ArithOp::Unm,
+        Operand::Text("x"),
+        Operand::Number(1),
+        Expected::Errs(RunErr::Arithmetic {
+            operator: ArithOp::Unm,
+            left: Kind::String,
+            right: Kind::String,
+        }),
+    ),
+    (
+        ArithOp::Sub,
+        Operand::Text("x"),
+        Operand::Number(1),
+        Expected::Errs(RunErr::Arithmetic {
+            operator: ArithOp::Sub,
+            left: Kind::String,
+            right: Kind::Number,
+        }),
+    ),
+    (
+        ArithOp::Sub,
+        Operand::Number(1),
+        Operand::Nil,
+        Expected::Errs(RunErr::Arithmetic {
+            operator: ArithOp::Sub,
+            left: Kind::Number,
+            right: Kind::Nil,
+        }),
+    ),
+    // A text that is a number of any value leaves the other operand to be asked.
+    (
+        ArithOp::Add,
+        Operand::Text("1.5"),
+        PLAIN,
+        Expected::Errs(RunErr::Arithmetic {
+            operator: ArithOp::Add,
+            left: Kind::String,
+            right: Kind::Table,
+        }),
+    ),
+    (
+        ArithOp::Add,
+        PLAIN,
+        Operand::Text("1.5"),
+        Expected::Errs(RunErr::Arithmetic {
+            operator: ArithOp::Add,
+            left: Kind::Table,
+            right: Kind::String,
+        }),
+    ),
+    (
+        ArithOp::Add,
+        Operand::Text("1.5"),
+        RIGHT,
+        Expected::CallsWithTwo(OTHER, Operand::Text("1.5"), RIGHT),
+    ),
+    (
+        ArithOp::Add,
+        LEFT,
+        Operand::Text("1.5"),
+        Expected::CallsWithTwo(Builtin::MathAbs, LEFT, Operand::Text("1.5")),
+    ),
+];
+
+const COMPARES: [(CompareOp, Operand, Operand, Expected); 18] = [
+    (
+        CompareOp::Eq,
+        Operand::Number(1),
+        Operand::Number(1),
+        Expected::Gives(Operand::Boolean(true)),
+    ),
+    (
+        CompareOp::Eq,
+        Operand::Number(1),
+        Operand::Text("1"),
+        Expected::Gives(Operand::Boolean(false)),
+    ),
+    (
+        CompareOp::Eq,
+        Operand::Text("a"),
+        Operand::Text("a"),
+        Expected::Gives(Operand::Boolean(true)),
+    ),
+    (
+        CompareOp::Eq,
+        LEFT,
+        LEFT,
+        Expected::Gives(Operand::Boolean(true)),
+    ),
+    (
+        CompareOp::Eq,
+        PLAIN,
+        NO_CALL,
+        Expected::Gives(Operand::Boolean(false)),
+    ),
+    (
+        CompareOp::Eq,
+        LEFT,
+        Operand::Number(1),
+        Expected::Gives(Operand::Boolean(false)),
+    ),
+    (
+        CompareOp::Eq,
+        LEFT,
+        RIGHT,
+        Expected::CallsWithTwo(Builtin::Rawequal, LEFT, RIGHT),
+    ),
+    (
+        CompareOp::Eq,
+        LEFT,
+        PLAIN,
+        Expected::CallsWithTwo(Builtin::Rawequal, LEFT, PLAIN),
+    ),
+    (
+        CompareOp::Eq,
+        PLAIN,
+        LEFT,
+        Expected::CallsWithTwo(Builtin::Rawequal, PLAIN, LEFT),
+    ),
+    (
+        CompareOp::Lt,
+        Operand::Number(1),
+        Operand::Number(2),
+        Expected::Gives(Operand::Boolean(true)),
+    ),
+    (
+        CompareOp::Lt,
+        Operand::Number(1),
+        Operand::Number(1),
+        Expected::Gives(Operand::Boolean(false)),
+    ),
+    (
+        CompareOp::Le,
+        Operand::Number(1),
+        Operand::Number(1),
+        Expected::Gives(Operand::Boolean(true)),
+    ),
+    (
+        CompareOp::Le,
+        Operand::Number(2),
+        Operand::Number(1),
+        Expected::Gives(Operand::Boolean(false)),
+    ),
+    // Strings have `__lt`, which two strings do not ask.
+    (
+        CompareOp::Lt,
+        Operand::Text("a"),
+        Operand::Text("ab"),
+        Expected::Gives(Operand::Boolean(true)),
+    ),
+    (
+        CompareOp::Lt,
+        Operand::Text("ab"),
+        Operand::Text("a"),
+        Expected::Gives(Operand::Boolean(false)),
+    ),
+    (
+        CompareOp::Lt,
+        Operand::Text("a"),
+        Operand::Text("a"),
+        Expected::Gives(Operand::Boolean(false)),
+    ),
+    (
+        CompareOp::Le,
+        Operand::Text("a"),
+        Operand::Text("a"),
+        Expected::Gives(Operand::Boolean(true)),
+    ),
+    (
+        CompareOp::Le,
+        Operand::Text("ab"),
+        Operand::Text("a"),
+        Expected::Gives(Operand::Boolean(false)),
+    ),
+];
+
+const ASKS_FOR_ORDER: [(CompareOp, Operand, Operand, Expected); 10] = [
+    (
+        CompareOp::Lt,
+        LEFT,
+        RIGHT,
+        Expected::CallsWithTwo(Builtin::Rawget, LEFT, RIGHT),
+    ),
+    (
+        CompareOp::Lt,
+        LEFT,
+        Operand::Number(1),
+        Expected::CallsWithTwo(Builtin::Rawget, LEFT, Operand::Number(1)),
+    ),
+    (
+        CompareOp::Lt,
+        Operand::Number(1),
+        RIGHT,
+        Expected::CallsWithTwo(OTHER, Operand::Number(1), RIGHT),
+    ),
+    (
+        CompareOp::Lt,
+        Operand::Text("a"),
+        Operand::Number(1),
+        Expected::CallsWithTwo(Builtin::StringByte, Operand::Text("a"), Operand::Number(1)),
+    ),
+    (
+        CompareOp::Lt,
+        Operand::Number(1),
+        PLAIN,
+        Expected::Errs(RunErr::CompareLess {
+            left: Kind::Number,
+            right: Kind::Table,
+        }),
+    ),
+    (
+        CompareOp::Lt,
+        Operand::Nil,
+        Operand::Number(1),
+        Expected::Errs(RunErr::CompareLess {
+            left: Kind::Nil,
+            right: Kind::Number,
+        }),
+    ),
+    (
+        CompareOp::Le,
+        PLAIN,
+        RIGHT,
+        Expected::CallsWithTwo(OTHER, PLAIN, RIGHT),
+    ),
+    (
+        CompareOp::Le,
+        LEFT,
+        RIGHT,
+        Expected::CallsWithTwo(OTHER, LEFT, RIGHT),
+    ),
+    // There is `__lt` alone.
+    (
+        CompareOp::Le,
+        LEFT,
+        Operand::Number(1),
+        Expected::Errs(RunErr::CompareLessOrEqual {
+            left: Kind::Table,
+            right: Kind::Number,
+        }),
+    ),
+    (
+        CompareOp::Le,
+        Operand::Text("a"),
+        Operand::Number(1),
+        Expected::Errs(RunErr::CompareLessOrEqual {
+            left: Kind::String,
+            right: Kind::Number,
+        }),
+    ),
+];
+
+// Each row is two operands, and what comes of them.
+const JOINS: [(Operand, Operand, Expected); 9] = [
+    (
+        Operand::Text("a"),
+        Operand::Number(-2),
+        Expected::Gives(Operand::Text("a-2")),
+    ),
+    (
+        Operand::Number(1),
+        Operand::Number(-2),
+        Expected::Gives(Operand::Text("1-2")),
+    ),
+    (
+        Operand::Text("a"),
+        Operand::Text(""),
+        Expected::Gives(Operand::Text("a")),
+    ),
+    (
+        LEFT,
+        Operand::Text("a"),
+        Expected::CallsWithTwo(Builtin::StringRep, LEFT, Operand::Text("a")),
+    ),
+    (
+        Operand::Number(1),
+        LEFT,
+        Expected::CallsWithTwo(Builtin::StringRep, Operand::Number(1), LEFT),
+    ),
+    (
+        LEFT,
+        RIGHT,
+        Expected::CallsWithTwo(Builtin::StringRep, LEFT, RIGHT),
+    ),
+    (
+        Operand::Text("a"),
+        RIGHT,
+        Expected::CallsWithTwo(OTHER, Operand::Text("a"), RIGHT),
+    ),
+    (
+        Operand::Text("a"),
+        PLAIN,
+        Expected::Errs(RunErr::Concatenate {
+            left: Kind::String,
+            right: Kind::Table,
+        }),
+    ),
+    (
+        Operand::Nil,
+        Operand::Number(1),
+        Expected::Errs(RunErr::Concatenate {
+            left: Kind::Nil,
+            right: Kind::Number,
+        }),
+    ),
+];
+
+// Each row is an operand, and what comes of it.
+const LENGTHS: [(Operand, Expected); 5] = [
+    (
+        Operand::Text("caf\u{e9}"),
+        Expected::Gives(Operand::Number(5)),
+    ),
+    (PLAIN, Expected::Gives(Operand::Number(1))),
+    (NO_CALL, Expected::Gives(Operand::Number(0))),
+    (LEFT, Expected::Calls(Builtin::Rawlen, LEFT)),
+    (
+        Operand::Nil,
+        Expected::Errs(RunErr::LengthOf { operand: Kind::Nil }),
+    ),
+];
+
+const CALLS: [(Operand, Expected); 7] = [
+    (
+        Operand::Function(Builtin::Print),
+        Expected::Gives(Operand::Function(Builtin::Print)),
+    ),
+    (LEFT, Expected::Calls(Builtin::Print, LEFT)),
+    (RIGHT, Expected::Calls(OTHER, RIGHT)),
+    (
+        NO_CALL,
+        Expected::Errs(RunErr::CallOf {
+            callee: Kind::Table,
+        }),
+    ),
+    (
+        PLAIN,
+        Expected::Errs(RunErr::CallOf {
+            callee: Kind::Table,
+        }),
+    ),
+    (
+        Operand::Text("x"),
+        Expected::Errs(RunErr::CallOf {
+            callee: Kind::String,
+        }),
+    ),
+    (
+        Operand::Nil,
+        Expected::Errs(RunErr::CallOf { callee: Kind::Nil }),
+    ),
+];
+
+// Calculates.
+fn calculates(rt: &impl Abort, world: &mut World, row: &(ArithOp, Operand, Operand, Expected)) {
+    let (left, right) = world.pair(row.1, row.2);
+    let given = arith(
+        &world.arena,
+        &world.globals,
+        &world.names,
+        row.0,
+        left,
+        right,
+    );
+    assert_eq!(rt; given, world.outcome(row.3));
 }
 
 #[test]
 fn numbers_are_calculated_with(rt: HostRuntime) -> Result<(), Fail> {
     let mut world = operands(&rt)?;
-    let ten = world.text(" 10 ")?;
-    let broken = world.text("1.5")?;
-    let huge = world.text("1e400")?;
-    let (seven, two) = (Operand::Number(7), Operand::Number(-2));
-    arithmetic_gives(
-        &rt,
-        &world,
-        &[
-            (ArithOp::Add, seven, two, number(5)),
-            (ArithOp::Sub, seven, two, number(9)),
-            (ArithOp::Mul, seven, two, number(-14)),
-            (ArithOp::Div, Operand::Number(6), two, number(-3)),
-            (ArithOp::Div, seven, two, Expected::Stops(Stop::NotWhole)),
-            (ArithOp::Idiv, seven, two, number(-4)),
-            (ArithOp::Mod, seven, two, number(-1)),
-            (ArithOp::Pow, two, seven, number(-128)),
-            (ArithOp::Unm, seven, Operand::Nil, number(-7)),
-            (ArithOp::Unm, ten, Operand::Nil, number(-10)),
-            (ArithOp::Add, ten, seven, number(17)),
-            (ArithOp::Add, seven, ten, number(17)),
-            (ArithOp::Add, broken, seven, Expected::Stops(Stop::NotWhole)),
-            (ArithOp::Add, seven, huge, Expected::Stops(Stop::OutOfRange)),
-            (ArithOp::Add, broken, huge, Expected::Stops(Stop::NotWhole)),
-            (ArithOp::Add, huge, broken, Expected::Stops(Stop::OutOfRange)),
-            (ArithOp::Unm, broken, seven, Expected::Stops(Stop::NotWhole)),
-        ],
-    );
+    for row in &CALCULATES {
+        calculates(&rt, &mut world, row);
+    }
     Ok(())
 }
 
 #[test]
 fn arithmetic_asks_metamethods(rt: HostRuntime) -> Result<(), Fail> {
     let mut world = operands(&rt)?;
-    let word = world.text("x")?;
-    let broken = world.text("1.5")?;
-    let one = Operand::Number(1);
-    let (add, sub, unm) = (ArithOp::Add, ArithOp::Sub, ArithOp::Unm);
-    for (op, f) in &[
-        (ArithOp::Add, Builtin::MathAbs),
-        (ArithOp::Sub, Builtin::MathCeil),
-        (ArithOp::Mul, Builtin::MathFloor),
-        (ArithOp::Div, Builtin::MathRound),
-        (ArithOp::Idiv, Builtin::MathSign),
-        (ArithOp::Mod, Builtin::MathMax),
-        (ArithOp::Pow, Builtin::MathMin),
-    ] {
-        arithmetic_gives(
-            &rt,
-            &world,
-            &[
-                (*op, LEFT, one, Expected::CallsWithTwo(*f, LEFT, one)),
-                (*op, one, LEFT, Expected::CallsWithTwo(*f, one, LEFT)),
-                (*op, LEFT, RIGHT, Expected::CallsWithTwo(*f, LEFT, RIGHT)),
-                (*op, PLAIN, RIGHT, Expected::CallsWithTwo(OTHER, PLAIN, RIGHT)),
-            ],
-        );
+    for row in &ASKS_FOR_ARITHMETIC {
+        calculates(&rt, &mut world, row);
     }
-    arithmetic_gives(
-        &rt,
-        &world,
-        &[
-            (unm, LEFT, RIGHT, Expected::CallsWith(Builtin::MathClamp, LEFT)),
-            (unm, PLAIN, RIGHT, arithmetic_error(unm, Kind::Table, Kind::Table)),
-            (unm, word, one, arithmetic_error(unm, Kind::String, Kind::String)),
-            (sub, word, one, arithmetic_error(sub, Kind::String, Kind::Number)),
-            (sub, one, Operand::Nil, arithmetic_error(sub, Kind::Number, Kind::Nil)),
-            // A text that is a number of any value leaves the other operand to be asked.
-            (add, broken, PLAIN, arithmetic_error(add, Kind::String, Kind::Table)),
-            (add, PLAIN, broken, arithmetic_error(add, Kind::Table, Kind::String)),
-            (add, broken, RIGHT, Expected::CallsWithTwo(OTHER, broken, RIGHT)),
-            (add, LEFT, broken, Expected::CallsWithTwo(Builtin::MathAbs, LEFT, broken)),
-        ],
-    );
     Ok(())
 }
 
-// Each row is a comparison, its operands and what it gives.
-fn comparison_gives(
-    rt: &impl Abort,
-    world: &World,
-    rows: &[(CompareOp, Operand, Operand, Expected)],
-) {
-    for (op, a, b, expected) in rows {
-        let (left, right) = (world.value(*a), world.value(*b));
-        let given = compare(&world.arena, &world.globals, &world.names, *op, left, right);
-        assert_eq!(rt; given, outcome(world, *expected));
-    }
+// Compares.
+fn compares(rt: &impl Abort, world: &mut World, row: &(CompareOp, Operand, Operand, Expected)) {
+    let (left, right) = world.pair(row.1, row.2);
+    let given = compare(
+        &world.arena,
+        &world.globals,
+        &world.names,
+        row.0,
+        left,
+        right,
+    );
+    assert_eq!(rt; given, world.outcome(row.3));
 }
 
 #[test]
 fn comparisons(rt: HostRuntime) -> Result<(), Fail> {
     let mut world = operands(&rt)?;
-    let short = world.text("a")?;
-    let long = world.text("ab")?;
-    let digit = world.text("1")?;
-    let (one, two) = (Operand::Number(1), Operand::Number(2));
-    let (eq, lt, le) = (CompareOp::Eq, CompareOp::Lt, CompareOp::Le);
-    let asks = |a: Operand, b: Operand| Expected::CallsWithTwo(Builtin::Rawequal, a, b);
-    comparison_gives(
-        &rt,
-        &world,
-        &[
-            (eq, one, one, boolean(true)),
-            (eq, one, digit, boolean(false)),
-            (eq, short, short, boolean(true)),
-            (eq, LEFT, LEFT, boolean(true)),
-            (eq, PLAIN, NO_CALL, boolean(false)),
-            (eq, LEFT, one, boolean(false)),
-            (eq, LEFT, RIGHT, asks(LEFT, RIGHT)),
-            (eq, LEFT, PLAIN, asks(LEFT, PLAIN)),
-            (eq, PLAIN, LEFT, asks(PLAIN, LEFT)),
-            (lt, one, two, boolean(true)),
-            (lt, one, one, boolean(false)),
-            (le, one, one, boolean(true)),
-            (le, two, one, boolean(false)),
-            (lt, short, long, boolean(true)),
-            (lt, long, short, boolean(false)),
-            (lt, short, short, boolean(false)),
-            (le, short, short, boolean(true)),
-            (le, long, short, boolean(false)),
-        ],
-    );
+    for row in &COMPARES {
+        compares(&rt, &mut world, row);
+    }
     Ok(())
 }
 
 #[test]
 fn order_asks_metamethods(rt: HostRuntime) -> Result<(), Fail> {
     let mut world = operands(&rt)?;
-    let word = world.text("a")?;
-    let one = Operand::Number(1);
-    let (lt, le) = (CompareOp::Lt, CompareOp::Le);
-    let less = |left: Kind, right: Kind| Expected::Errs(RunErr::CompareLess { left, right });
-    let less_or_equal =
-        |left: Kind, right: Kind| Expected::Errs(RunErr::CompareLessOrEqual { left, right });
-    comparison_gives(
-        &rt,
-        &world,
-        &[
-            (lt, LEFT, RIGHT, Expected::CallsWithTwo(Builtin::Rawget, LEFT, RIGHT)),
-            (lt, LEFT, one, Expected::CallsWithTwo(Builtin::Rawget, LEFT, one)),
-            (lt, one, RIGHT, Expected::CallsWithTwo(OTHER, one, RIGHT)),
-            (lt, word, one, Expected::CallsWithTwo(Builtin::StringByte, word, one)),
-            (lt, one, PLAIN, less(Kind::Number, Kind::Table)),
-            (lt, Operand::Nil, one, less(Kind::Nil, Kind::Number)),
-            (le, PLAIN, RIGHT, Expected::CallsWithTwo(OTHER, PLAIN, RIGHT)),
-            (le, LEFT, RIGHT, Expected::CallsWithTwo(OTHER, LEFT, RIGHT)),
-            // There is `__lt` alone.
-            (le, LEFT, one, less_or_equal(Kind::Table, Kind::Number)),
-            (le, word, one, less_or_equal(Kind::String, Kind::Number)),
-        ],
-    );
+    for row in &ASKS_FOR_ORDER {
+        compares(&rt, &mut world, row);
+    }
     Ok(())
 }
 
-// Joins two operands.
-fn joins(
-    rt: &(impl Abort + AllocGlobal),
-    world: &mut World,
-    a: Operand,
-    b: Operand,
-    expected: Expected,
-) {
-    let (left, right) = (world.value(a), world.value(b));
-    let expected = outcome(world, expected);
-    let World {
-        arena,
-        names,
-        globals,
-        ..
-    } = world;
-    let given = concat(rt.alloc(), arena, globals, names, left, right);
+// Joins.
+fn joins(rt: &(impl Abort + AllocGlobal), world: &mut World, row: &(Operand, Operand, Expected)) {
+    let (left, right) = world.pair(row.0, row.1);
+    let expected = world.outcome(row.2);
+    let given = concat(
+        rt.alloc(),
+        &world.arena,
+        &world.globals,
+        &mut world.names,
+        left,
+        right,
+    );
     assert_eq!(rt; given, Ok(expected));
 }
 
 #[test]
 fn concatenation(rt: HostRuntime) -> Result<(), Fail> {
     let mut world = operands(&rt)?;
-    let a = world.text("a")?;
-    let none = world.text("")?;
-    let digits = world.text("1-2")?;
-    let both = world.text("a-2")?;
-    let (one, two) = (Operand::Number(1), Operand::Number(-2));
-    let error = |left: Kind, right: Kind| Expected::Errs(RunErr::Concatenate { left, right });
-    let calls = |a: Operand, b: Operand| Expected::CallsWithTwo(Builtin::StringRep, a, b);
-    for (left, right, expected) in &[
-        (a, two, Expected::Gives(both)),
-        (one, two, Expected::Gives(digits)),
-        (a, none, Expected::Gives(a)),
-        (LEFT, a, calls(LEFT, a)),
-        (one, LEFT, calls(one, LEFT)),
-        (LEFT, RIGHT, calls(LEFT, RIGHT)),
-        (a, RIGHT, Expected::CallsWithTwo(OTHER, a, RIGHT)),
-        (a, PLAIN, error(Kind::String, Kind::Table)),
-        (Operand::Nil, one, error(Kind::Nil, Kind::Number)),
-    ] {
-        joins(&rt, &mut world, *left, *right, *expected);
+    for row in &JOINS {
+        joins(&rt, &mut world, row);
     }
     Ok(())
 }
@@ -348,27 +723,35 @@ fn too_long_a_string(rt: HostRuntime) -> Result<(), Fail> {
         bytes.extend_from_slice(half.as_slice())?;
     }
     bytes.push(b'x')?;
-    let half = Operand::Text(world.names.intern(bytes.as_slice())?);
-    let error = Expected::Errs(RunErr::StringTooLarge);
-    joins(&rt, &mut world, half, half, error);
+    twice(&rt, &mut world, bytes.as_slice())
+}
+
+// Joins a text that is too long with itself.
+fn twice(rt: &(impl Abort + AllocGlobal), world: &mut World, bytes: &[u8]) -> Result<(), Fail> {
+    let id = world.names.intern(bytes)?;
+    let known = id.0 < world.names.count();
+    assert!(rt; known);
+    let half = &Value::Str(id);
+    let given = concat(
+        rt.alloc(),
+        &world.arena,
+        &world.globals,
+        &mut world.names,
+        *half,
+        *half,
+    );
+    assert_eq!(rt; given, Ok(Outcome::RunError(RunErr::StringTooLarge)));
     Ok(())
 }
 
 #[test]
 fn lengths(rt: HostRuntime) -> Result<(), Fail> {
     let mut world = operands(&rt)?;
-    let word = world.text("caf\u{e9}")?;
-    world.store(1, Operand::Number(1), word);
-    let nothing = Expected::Errs(RunErr::LengthOf { operand: Kind::Nil });
-    for (a, expected) in &[
-        (word, number(5)),
-        (PLAIN, number(1)),
-        (NO_CALL, number(0)),
-        (LEFT, Expected::CallsWith(Builtin::Rawlen, LEFT)),
-        (Operand::Nil, nothing),
-    ] {
-        let given = length(&world.arena, &world.globals, &world.names, world.value(*a));
-        assert_eq!(rt; given, outcome(&world, *expected));
+    world.store(1, Operand::Number(1), LEFT);
+    for (a, expected) in &LENGTHS {
+        let (v, _) = world.pair(*a, Operand::Nil);
+        let given = length(&world.arena, &world.globals, &world.names, v);
+        assert_eq!(rt; given, world.outcome(*expected));
     }
     Ok(())
 }
@@ -376,20 +759,10 @@ fn lengths(rt: HostRuntime) -> Result<(), Fail> {
 #[test]
 fn calls(rt: HostRuntime) -> Result<(), Fail> {
     let mut world = operands(&rt)?;
-    let word = world.text("x")?;
-    let f = Operand::Function(Builtin::Print);
-    let error = |callee: Kind| Expected::Errs(RunErr::CallOf { callee });
-    for (a, expected) in &[
-        (f, Expected::Gives(f)),
-        (LEFT, Expected::CallsWith(Builtin::Print, LEFT)),
-        (RIGHT, Expected::CallsWith(OTHER, RIGHT)),
-        (NO_CALL, error(Kind::Table)),
-        (PLAIN, error(Kind::Table)),
-        (word, error(Kind::String)),
-        (Operand::Nil, error(Kind::Nil)),
-    ] {
-        let given = call_target(&world.arena, &world.globals, world.value(*a));
-        assert_eq!(rt; given, outcome(&world, *expected));
+    for (a, expected) in &CALLS {
+        let f = world.value(*a);
+        let given = call_target(&world.arena, &world.globals, f);
+        assert_eq!(rt; given, world.outcome(*expected));
     }
     Ok(())
 }

@@ -1,16 +1,18 @@
 //! Tables and texts to operate on.
 
-ghost use Rattle.luau_tables.specs.Own.{HasText, IsThere};
+ghost use Rattle.std.specs.Prelude.{◌≡◌, ◌<◌};
+ghost use Rattle.luau_tables.specs.Own.{HasText};
+ghost use Rattle.meta_ops_tests.specs.Ready.{IsReady, MayStore, table_of};
 ghost use Rattle.value_arena.specs.Arenas.{HasTable};
 
 use byte_text::{Interner, StrId};
-use luau_tables::{Globals, MetaNames, set, set_meta};
-use resource::{OutOfMemory, Steps};
-use std::marker::Brand;
-use std::sync::ledger::{Blank, Ledger};
+use lib_arguments::text_value;
+use luau_tables::{Globals, MetaNames, set_meta, write};
+use meta_ops::Outcome;
+use resource::OutOfMemory;
 use value_arena::Arena;
-use value_model::{Builtin, Owner, TableId, Value};
-use whole_num::Whole;
+use value_model::{Builtin, Kind, Owner, RunErr, ShortOwner, TableId, Value};
+use whole_num::{Stop, Whole};
 
 /// A value, with a table by its number in a world.
 #[derive(Clone, Copy)]
@@ -18,27 +20,40 @@ pub enum Operand {
     Nil,
     Boolean(bool),
     Number(i64),
-    Text(StrId),
-    Table(usize),
+    Text(&'static str),
+    Table(u32),
     Function(Builtin),
 }
 
-/// An arena with an interner, and the tables that were made in it, which are nobody's. The first one is the metatable of strings.
+/// What an operation is to give.
+#[derive(Clone, Copy)]
+pub enum Expected {
+    Gives(Operand),
+    Calls(Builtin, Operand),
+    CallsWithTwo(Builtin, Operand, Operand),
+    CallsWithThree(Builtin, Operand, Operand, Operand),
+    CannotIndex(Kind, &'static str),
+    Errs(RunErr),
+    Stops(Stop),
+}
+
+/// An arena with an interner, and how many tables were made in it, which are nobody's. Table 0 is the metatable of strings.
 #[derive(Drop)]
 pub struct World {
     pub arena: Arena,
     pub names: Interner,
     pub globals: Globals,
-    tables: Vec<TableId>,
+    pub tables: u32,
+    ghost ready: { IsReady arena tables },
+    ghost strings: { globals.string_meta ≡ table_of 0 },
 }
 
 impl World {
+    /// A world with the metatable of strings alone.
     pub fn new(rt: &impl AllocGlobal) -> Result<World, OutOfMemory> {
         let mut arena = Arena::new(rt.alloc());
         let mut names = Interner::new(rt.alloc());
         let string_meta = arena.new_table(Owner::Frozen)?;
-        let mut tables = Vec::new(rt.alloc());
-        tables.push(string_meta)?;
         let meta = meta_names(&mut names);
         let globals = Globals {
             table: string_meta,
@@ -51,78 +66,139 @@ impl World {
             arena,
             names,
             globals,
-            tables,
+            tables: 1,
         })
     }
 
-    /// A text.
-    pub fn text(&mut self, text: &str) -> Result<Operand, OutOfMemory> {
-        Ok(Operand::Text(self.names.intern(text.as_bytes())?))
-    }
-
     /// One more table, by its number.
-    pub fn table(&mut self) -> Result<usize, OutOfMemory> {
+    pub fn table(&mut self) -> Result<u32, OutOfMemory> {
         let id = self.arena.new_table(Owner::Frozen)?;
-        let number = self.tables.len();
-        self.tables.push(id)?;
-        Ok(number)
+        if id.place == u32::MAX {
+            return Err(OutOfMemory);
+        }
+        self.tables = id.place + 1;
+        Ok(id.place)
     }
 
-    /// The table of a number, and the metatable of strings where there is none.
-    pub fn id(&self, number: usize) -> TableId {
-        match self.tables.as_slice().get(number) {
-            Some(id) => *id,
-            None => self.globals.string_meta,
+    /// The table of a number, and table 0 where there is none.
+    pub fn id(&self, number: u32) -> TableId
+        ensures there { HasTable self.now.arena result }
+        ensures whose { MayStore self.now.arena (Value.Table result) }
+    {
+        let place = if number < self.tables { number } else { 0 };
+        TableId {
+            owner: ShortOwner::Frozen,
+            place,
         }
     }
 
     /// A value.
-    pub fn value(&self, operand: Operand) -> Value {
+    pub fn value(&mut self, operand: Operand) -> Value
+        ensures arena { self.new.arena ≡ self.old.arena }
+        ensures there { MayStore self.new.arena result }
+    {
         match operand {
             Operand::Nil => Value::Nil,
             Operand::Boolean(b) => Value::Bool(b),
-            Operand::Number(n) => Whole::new(n).map_or(Value::Nil, Value::Num),
-            Operand::Text(id) => {
+            Operand::Number(n) => match Whole::new(n) {
+                Some(number) => Value::Num(number),
+                None => Value::Nil,
+            },
+            Operand::Text(text) => Value::Str(note(&mut self.names, text.as_bytes())),
+            Operand::Table(number) => Value::Table(self.id(number)),
+            Operand::Function(builtin) => Value::Native(builtin),
+        }
+    }
+
+    /// Two values, whose texts have numbers.
+    pub fn pair(&mut self, a: Operand, b: Operand) -> (Value, Value)
+        ensures arena { self.new.arena ≡ self.old.arena }
+        ensures first { MayStore self.new.arena result.0 }
+        ensures second { MayStore self.new.arena result.1 }
+        ensures text { HasText self.new.names result.0 }
+        ensures other_text { HasText self.new.names result.1 }
+    {
+        let first = self.value(a);
+        let second = self.value(b);
+        (self.known(first), self.known(second))
+    }
+
+    // The value, or nil where it is a text without a number.
+    fn known(&self, v: Value) -> Value
+        requires { MayStore self.now.arena v }
+        ensures there { MayStore self.now.arena result }
+        ensures text { HasText self.now.names result }
+    {
+        match v {
+            Value::Str(id) => {
                 if id.0 < self.names.count() {
                     Value::Str(id)
                 } else {
                     Value::Nil
                 }
             }
-            Operand::Table(number) => Value::Table(self.id(number)),
-            Operand::Function(builtin) => Value::Native(builtin),
+            other => other,
+        }
+    }
+
+    /// The outcome.
+    pub fn outcome(&mut self, expected: Expected) -> Outcome
+        ensures { self.new.arena ≡ self.old.arena }
+    {
+        match expected {
+            Expected::Gives(v) => Outcome::Done(self.value(v)),
+            Expected::Calls(f, a) => self.call(f, a, Operand::Nil, Operand::Nil, 1),
+            Expected::CallsWithTwo(f, a, b) => self.call(f, a, b, Operand::Nil, 2),
+            Expected::CallsWithThree(f, a, b, c) => self.call(f, a, b, c, 3),
+            Expected::CannotIndex(base, key) => Outcome::RunError(RunErr::IndexWithName {
+                base,
+                key: note(&mut self.names, key.as_bytes()),
+            }),
+            Expected::Errs(error) => Outcome::RunError(error),
+            Expected::Stops(stop) => Outcome::Stop(stop),
+        }
+    }
+
+    // A call.
+    fn call(&mut self, f: Builtin, a: Operand, b: Operand, c: Operand, count: u8) -> Outcome
+        ensures { self.new.arena ≡ self.old.arena }
+    {
+        let first = self.value(a);
+        let second = self.value(b);
+        let third = self.value(c);
+        Outcome::CallThis {
+            callee: Value::Native(f),
+            args: [first, second, third],
+            count,
         }
     }
 
     /// Stores a value in a table.
-    pub fn store(&mut self, number: usize, key: Operand, v: Operand) {
-        let (t, key, v) = (self.id(number), self.value(key), self.value(v));
-        store::<Brand>(&mut self.arena, t, key, v, Blank::new(1));
-    }
-
-    /// Stores a value under the name of a metamethod.
-    pub fn say(&mut self, number: usize, name: StrId, v: Operand) {
-        self.store(number, Operand::Text(name), v);
-    }
-
-    /// Freezes a table.
-    pub fn freeze(&mut self, number: usize) {
+    pub fn store(&mut self, number: u32, key: Operand, v: Operand) {
         let t = self.id(number);
-        self.arena.freeze(t);
+        let (key, stored) = self.pair(key, v);
+        let _ = write(&mut self.arena, t, key, stored);
+    }
+
+    /// Stores a function or another value under the name of a metamethod.
+    pub fn say(&mut self, number: u32, name: StrId, v: Operand) {
+        let t = self.id(number);
+        let stored = self.value(v);
+        let _ = write(&mut self.arena, t, Value::Str(name), stored);
     }
 
     /// Gives a table a metatable.
-    pub fn give(&mut self, number: usize, meta: usize) {
-        let (t, m) = (self.id(number), self.id(meta));
+    pub fn give(&mut self, number: u32, meta: u32) {
+        let t = self.id(number);
+        let m = self.id(meta);
         let _ = set_meta(&mut self.arena, t, Some(m));
     }
-}
 
-// Stores a value.
-fn store<L: Ledger>(arena: &mut Arena, t: TableId, key: Value, v: Value, blank: Blank)
-{
-    let mut steps = Steps::<L>::new(blank);
-    let _ = set(arena, t, key, v, &mut steps);
+    /// Freezes a table.
+    pub fn freeze(&mut self, number: u32) {
+        let t = self.id(number);
+        self.arena.freeze(t);
+    }
 }
 
 // The names of metamethods.
@@ -152,7 +228,7 @@ fn meta_names(names: &mut Interner) -> MetaNames {
 
 // The number of a text.
 fn note(names: &mut Interner, text: &[u8]) -> StrId {
-    match names.intern(text) {
+    match text_value(names, text) {
         Ok(id) => id,
         Err(OutOfMemory) => StrId::PRINT,
     }
