@@ -1,6 +1,7 @@
 //! Tests of reading and writing under a key.
 
-ghost use Rattle.std.specs.Prelude.{◌≡◌, ◌<◌};
+ghost use Rattle.std.specs.Prelude.{◌≡◌, ◌<◌, IfOk};
+ghost use Rattle.meta_ops_tests.specs.Ready.{IsReady};
 
 use crate::world::{Expected, Operand, World};
 use luau_tables::get;
@@ -301,7 +302,9 @@ const CALLED_WRITES: [Write; 1] = [(
 )];
 
 // So many tables from 1 on, each of which is its own metatable. But for the last one, each leads to the next.
-fn chain(rt: &impl AllocGlobal, last: u32) -> Result<World, Fail> {
+fn chain(rt: &impl AllocGlobal, last: u32) -> Result<World, Fail>
+    ensures { IfOk result (λ w. IsReady w) }
+{
     let mut world = World::new(rt)?;
     for _ in 0..last {
         let number = world.table()?;
@@ -309,35 +312,39 @@ fn chain(rt: &impl AllocGlobal, last: u32) -> Result<World, Fail> {
     }
     let meta = world.globals.meta;
     for number in 1..last {
-        world.say(number, meta.index, Operand::Table(number + 1));
-        world.say(number, meta.newindex, Operand::Table(number + 1));
+        world.say(number, meta.index, &Operand::Table(number + 1));
+        world.say(number, meta.newindex, &Operand::Table(number + 1));
     }
     Ok(world)
 }
 
 // Reads a value under a key.
 fn reads<L: Ledger>(rt: &impl Abort, world: &mut World, row: &Read, blank: Blank)
+    requires ready { IsReady world.old }
     requires name { blank.name ≡ L.name }
     requires parts { blank.parts ≡ L.parts }
     requires some { 0 < L.parts }
+    ensures { IsReady world.new }
 {
     let mut steps = Steps::<L>::new(blank);
-    let (base, key) = world.pair(row.0, row.1);
+    let (base, key) = world.pair(&row.0, &row.1);
     let given = index(&world.arena, &world.globals, base, key, &mut steps);
-    assert_eq!(rt; given, (world.outcome(row.2), row.3));
+    assert_eq!(rt; given, (world.outcome(&row.2), row.3));
 }
 
 // Three tables that lead on to each other, and one whose `__index` is a number.
-fn to_read(rt: &impl AllocGlobal) -> Result<World, Fail> {
+fn to_read(rt: &impl AllocGlobal) -> Result<World, Fail>
+    ensures { IfOk result (λ w. IsReady w) }
+{
     let mut world = chain(rt, 3)?;
     let number = world.table()?;
     let meta = world.globals.meta;
     world.give(number, number);
-    world.say(number, meta.index, Operand::Number(1));
-    world.store(3, Operand::Text("x"), Operand::Number(7));
-    world.store(1, Operand::Number(1), Operand::Text("x"));
+    world.say(number, meta.index, &Operand::Number(1));
+    world.store(3, &Operand::Text("x"), &Operand::Number(7));
+    world.store(1, &Operand::Number(1), &Operand::Text("x"));
     // Strings are indexed through table 3.
-    world.say(0, meta.index, Operand::Table(3));
+    world.say(0, meta.index, &Operand::Table(3));
     Ok(world)
 }
 
@@ -354,8 +361,8 @@ fn reading(rt: HostRuntime) -> Result<(), Fail> {
 fn long_chains_of_reads(rt: HostRuntime) -> Result<(), Fail> {
     let mut world = chain(&rt, 102)?;
     let meta = world.globals.meta;
-    world.store(102, Operand::Text("x"), Operand::Number(7));
-    world.say(102, meta.index, Operand::Function(READER));
+    world.store(102, &Operand::Text("x"), &Operand::Number(7));
+    world.say(102, meta.index, &Operand::Function(READER));
     for row in &LONG_READS {
         reads::<Brand>(&rt, &mut world, row, Blank::new(1));
     }
@@ -364,15 +371,16 @@ fn long_chains_of_reads(rt: HostRuntime) -> Result<(), Fail> {
 
 // Writes a value under a key.
 fn writes<L: Ledger>(rt: &impl Abort, mut world: World, row: &Write, blank: Blank)
+    requires ready { IsReady world }
     requires name { blank.name ≡ L.name }
     requires parts { blank.parts ≡ L.parts }
     requires some { 0 < L.parts }
 {
     let mut steps = Steps::<L>::new(blank);
-    let expected = world.outcome(row.2);
-    let has = world.value(row.5);
-    let (base, key) = world.pair(row.0, row.1);
-    let (v, _) = world.pair(Operand::Number(7), Operand::Nil);
+    let expected = world.outcome(&row.2);
+    let has = world.value(&row.5);
+    let (base, key) = world.pair(&row.0, &row.1);
+    let (v, _) = world.pair(&Operand::Number(7), &Operand::Nil);
     let t = world.id(row.4);
     let sought = &key;
     let World {
@@ -387,19 +395,21 @@ fn writes<L: Ledger>(rt: &impl Abort, mut world: World, row: &Write, blank: Blan
 
 // Three tables that lead on to each other, of which the last one has a value under 2. Then one that is frozen, one whose
 // `__newindex` is a number, and one with a function and a value under 1.
-fn to_write(rt: &impl AllocGlobal) -> Result<World, Fail> {
+fn to_write(rt: &impl AllocGlobal) -> Result<World, Fail>
+    ensures { IfOk result (λ w. IsReady w) }
+{
     let mut world = chain(rt, 3)?;
     let frozen = world.table()?;
     let number = world.table()?;
     let function = world.table()?;
     let newindex = world.globals.meta.newindex;
-    world.store(3, Operand::Number(2), Operand::Boolean(true));
+    world.store(3, &Operand::Number(2), &Operand::Boolean(true));
     world.freeze(frozen);
     world.give(number, number);
-    world.say(number, newindex, Operand::Number(1));
+    world.say(number, newindex, &Operand::Number(1));
     world.give(function, function);
-    world.say(function, newindex, Operand::Function(WRITER));
-    world.store(function, Operand::Number(1), Operand::Number(1));
+    world.say(function, newindex, &Operand::Function(WRITER));
+    world.store(function, &Operand::Number(1), &Operand::Number(1));
     Ok(world)
 }
 
@@ -419,7 +429,7 @@ fn long_chains_of_writes(rt: HostRuntime) -> Result<(), Fail> {
     for row in &CALLED_WRITES {
         let mut world = chain(&rt, 102)?;
         let newindex = world.globals.meta.newindex;
-        world.say(102, newindex, Operand::Function(WRITER));
+        world.say(102, newindex, &Operand::Function(WRITER));
         writes::<Brand>(&rt, world, row, Blank::new(1));
     }
     Ok(())

@@ -1,6 +1,10 @@
 //! Tests of the operators, of lengths and of calls.
 
+ghost use Rattle.std.specs.Prelude.{IfOk};
+ghost use Rattle.meta_ops_tests.specs.Ready.{IsReady};
+
 use crate::world::{Expected, Operand, World};
+use lib_arguments::text_value;
 use meta_ops::{ArithOp, CompareOp, Outcome, arith, call_target, compare, concat, length};
 use std::process::Abort;
 use std::test::Fail;
@@ -29,7 +33,9 @@ const NO_CALL_META: u32 = 7;
 const OTHER: Builtin = Builtin::StringLen;
 
 // The tables.
-fn operands(rt: &impl AllocGlobal) -> Result<World, Fail> {
+fn operands(rt: &impl AllocGlobal) -> Result<World, Fail>
+    ensures { IfOk result (λ w. IsReady w) }
+{
     let mut world = World::new(rt)?;
     for _ in 1..8 {
         world.table()?;
@@ -40,51 +46,57 @@ fn operands(rt: &impl AllocGlobal) -> Result<World, Fail> {
     say_left(&mut world);
     say_right(&mut world);
     let meta = world.globals.meta;
-    world.say(NO_CALL_META, meta.call, LEFT);
+    world.say(NO_CALL_META, meta.call, &LEFT);
     // Strings have a metatable too.
-    world.say(0, meta.lt, Operand::Function(Builtin::StringByte));
+    world.say(0, meta.lt, &Operand::Function(Builtin::StringByte));
     Ok(world)
 }
 
 // A function for each metamethod but `__le`.
-fn say_left(world: &mut World) {
+fn say_left(world: &mut World)
+    requires { IsReady world.old }
+    ensures { IsReady world.new }
+{
     let meta = world.globals.meta;
-    world.say(LEFT_META, meta.add, Operand::Function(Builtin::MathAbs));
-    world.say(LEFT_META, meta.sub, Operand::Function(Builtin::MathCeil));
-    world.say(LEFT_META, meta.mul, Operand::Function(Builtin::MathFloor));
-    world.say(LEFT_META, meta.div, Operand::Function(Builtin::MathRound));
-    world.say(LEFT_META, meta.idiv, Operand::Function(Builtin::MathSign));
-    world.say(LEFT_META, meta.mod_, Operand::Function(Builtin::MathMax));
-    world.say(LEFT_META, meta.pow, Operand::Function(Builtin::MathMin));
-    world.say(LEFT_META, meta.unm, Operand::Function(Builtin::MathClamp));
-    world.say(LEFT_META, meta.eq, Operand::Function(Builtin::Rawequal));
-    world.say(LEFT_META, meta.lt, Operand::Function(Builtin::Rawget));
+    world.say(LEFT_META, meta.add, &Operand::Function(Builtin::MathAbs));
+    world.say(LEFT_META, meta.sub, &Operand::Function(Builtin::MathCeil));
+    world.say(LEFT_META, meta.mul, &Operand::Function(Builtin::MathFloor));
+    world.say(LEFT_META, meta.div, &Operand::Function(Builtin::MathRound));
+    world.say(LEFT_META, meta.idiv, &Operand::Function(Builtin::MathSign));
+    world.say(LEFT_META, meta.mod_, &Operand::Function(Builtin::MathMax));
+    world.say(LEFT_META, meta.pow, &Operand::Function(Builtin::MathMin));
+    world.say(LEFT_META, meta.unm, &Operand::Function(Builtin::MathClamp));
+    world.say(LEFT_META, meta.eq, &Operand::Function(Builtin::Rawequal));
+    world.say(LEFT_META, meta.lt, &Operand::Function(Builtin::Rawget));
     world.say(
         LEFT_META,
         meta.concat,
-        Operand::Function(Builtin::StringRep),
+        &Operand::Function(Builtin::StringRep),
     );
-    world.say(LEFT_META, meta.len, Operand::Function(Builtin::Rawlen));
-    world.say(LEFT_META, meta.call, Operand::Function(Builtin::Print));
+    world.say(LEFT_META, meta.len, &Operand::Function(Builtin::Rawlen));
+    world.say(LEFT_META, meta.call, &Operand::Function(Builtin::Print));
 }
 
 // One function for all metamethods.
-fn say_right(world: &mut World) {
+fn say_right(world: &mut World)
+    requires { IsReady world.old }
+    ensures { IsReady world.new }
+{
     let meta = world.globals.meta;
-    world.say(RIGHT_META, meta.add, Operand::Function(OTHER));
-    world.say(RIGHT_META, meta.sub, Operand::Function(OTHER));
-    world.say(RIGHT_META, meta.mul, Operand::Function(OTHER));
-    world.say(RIGHT_META, meta.div, Operand::Function(OTHER));
-    world.say(RIGHT_META, meta.idiv, Operand::Function(OTHER));
-    world.say(RIGHT_META, meta.mod_, Operand::Function(OTHER));
-    world.say(RIGHT_META, meta.pow, Operand::Function(OTHER));
-    world.say(RIGHT_META, meta.unm, Operand::Function(OTHER));
-    world.say(RIGHT_META, meta.eq, Operand::Function(OTHER));
-    world.say(RIGHT_META, meta.lt, Operand::Function(OTHER));
-    world.say(RIGHT_META, meta.le, Operand::Function(OTHER));
-    world.say(RIGHT_META, meta.concat, Operand::Function(OTHER));
-    world.say(RIGHT_META, meta.len, Operand::Function(OTHER));
-    world.say(RIGHT_META, meta.call, Operand::Function(OTHER));
+    world.say(RIGHT_META, meta.add, &Operand::Function(OTHER));
+    world.say(RIGHT_META, meta.sub, &Operand::Function(OTHER));
+    world.say(RIGHT_META, meta.mul, &Operand::Function(OTHER));
+    world.say(RIGHT_META, meta.div, &Operand::Function(OTHER));
+    world.say(RIGHT_META, meta.idiv, &Operand::Function(OTHER));
+    world.say(RIGHT_META, meta.mod_, &Operand::Function(OTHER));
+    world.say(RIGHT_META, meta.pow, &Operand::Function(OTHER));
+    world.say(RIGHT_META, meta.unm, &Operand::Function(OTHER));
+    world.say(RIGHT_META, meta.eq, &Operand::Function(OTHER));
+    world.say(RIGHT_META, meta.lt, &Operand::Function(OTHER));
+    world.say(RIGHT_META, meta.le, &Operand::Function(OTHER));
+    world.say(RIGHT_META, meta.concat, &Operand::Function(OTHER));
+    world.say(RIGHT_META, meta.len, &Operand::Function(OTHER));
+    world.say(RIGHT_META, meta.call, &Operand::Function(OTHER));
 }
 
 // Each row is an operator, its operands and what it gives.
@@ -625,8 +637,11 @@ const CALLS: [(Operand, Expected); 7] = [
 ];
 
 // Calculates.
-fn calculates(rt: &impl Abort, world: &mut World, row: &(ArithOp, Operand, Operand, Expected)) {
-    let (left, right) = world.pair(row.1, row.2);
+fn calculates(rt: &impl Abort, world: &mut World, row: &(ArithOp, Operand, Operand, Expected))
+    requires { IsReady world.old }
+    ensures { IsReady world.new }
+{
+    let (left, right) = world.pair(&row.1, &row.2);
     let given = arith(
         &world.arena,
         &world.globals,
@@ -635,7 +650,7 @@ fn calculates(rt: &impl Abort, world: &mut World, row: &(ArithOp, Operand, Opera
         left,
         right,
     );
-    assert_eq!(rt; given, world.outcome(row.3));
+    assert_eq!(rt; given, world.outcome(&row.3));
 }
 
 #[test]
@@ -657,8 +672,11 @@ fn arithmetic_asks_metamethods(rt: HostRuntime) -> Result<(), Fail> {
 }
 
 // Compares.
-fn compares(rt: &impl Abort, world: &mut World, row: &(CompareOp, Operand, Operand, Expected)) {
-    let (left, right) = world.pair(row.1, row.2);
+fn compares(rt: &impl Abort, world: &mut World, row: &(CompareOp, Operand, Operand, Expected))
+    requires { IsReady world.old }
+    ensures { IsReady world.new }
+{
+    let (left, right) = world.pair(&row.1, &row.2);
     let given = compare(
         &world.arena,
         &world.globals,
@@ -667,7 +685,7 @@ fn compares(rt: &impl Abort, world: &mut World, row: &(CompareOp, Operand, Opera
         left,
         right,
     );
-    assert_eq!(rt; given, world.outcome(row.3));
+    assert_eq!(rt; given, world.outcome(&row.3));
 }
 
 #[test]
@@ -689,9 +707,12 @@ fn order_asks_metamethods(rt: HostRuntime) -> Result<(), Fail> {
 }
 
 // Joins.
-fn joins(rt: &(impl Abort + AllocGlobal), world: &mut World, row: &(Operand, Operand, Expected)) {
-    let (left, right) = world.pair(row.0, row.1);
-    let expected = world.outcome(row.2);
+fn joins(rt: &(impl Abort + AllocGlobal), world: &mut World, row: &(Operand, Operand, Expected))
+    requires { IsReady world.old }
+    ensures { IsReady world.new }
+{
+    let expected = world.outcome(&row.2);
+    let (left, right) = world.pair(&row.0, &row.1);
     let given = concat(
         rt.alloc(),
         &world.arena,
@@ -727,8 +748,10 @@ fn too_long_a_string(rt: HostRuntime) -> Result<(), Fail> {
 }
 
 // Joins a text that is too long with itself.
-fn twice(rt: &(impl Abort + AllocGlobal), world: &mut World, bytes: &[u8]) -> Result<(), Fail> {
-    let id = world.names.intern(bytes)?;
+fn twice(rt: &(impl Abort + AllocGlobal), world: &mut World, bytes: &[u8]) -> Result<(), Fail>
+    requires { IsReady world.old }
+{
+    let id = text_value(&mut world.names, bytes)?;
     let known = id.0 < world.names.count();
     assert!(rt; known);
     let half = &Value::Str(id);
@@ -747,11 +770,11 @@ fn twice(rt: &(impl Abort + AllocGlobal), world: &mut World, bytes: &[u8]) -> Re
 #[test]
 fn lengths(rt: HostRuntime) -> Result<(), Fail> {
     let mut world = operands(&rt)?;
-    world.store(1, Operand::Number(1), LEFT);
+    world.store(1, &Operand::Number(1), &LEFT);
     for (a, expected) in &LENGTHS {
-        let (v, _) = world.pair(*a, Operand::Nil);
+        let (v, _) = world.pair(a, &Operand::Nil);
         let given = length(&world.arena, &world.globals, &world.names, v);
-        assert_eq!(rt; given, world.outcome(*expected));
+        assert_eq!(rt; given, world.outcome(expected));
     }
     Ok(())
 }
@@ -760,9 +783,9 @@ fn lengths(rt: HostRuntime) -> Result<(), Fail> {
 fn calls(rt: HostRuntime) -> Result<(), Fail> {
     let mut world = operands(&rt)?;
     for (a, expected) in &CALLS {
-        let f = world.value(*a);
+        let f = world.value(a);
         let given = call_target(&world.arena, &world.globals, f);
-        assert_eq!(rt; given, world.outcome(*expected));
+        assert_eq!(rt; given, world.outcome(expected));
     }
     Ok(())
 }

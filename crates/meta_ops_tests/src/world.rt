@@ -1,9 +1,9 @@
 //! Tables and texts to operate on.
 
-ghost use Rattle.std.specs.Prelude.{◌≡◌, ◌<◌};
-ghost use Rattle.luau_tables.specs.Own.{HasText};
-ghost use Rattle.meta_ops_tests.specs.Ready.{IsReady, MayStore, table_of};
-ghost use Rattle.value_arena.specs.Arenas.{HasTable};
+ghost use Rattle.std.specs.Prelude.{◌≡◌, IfOk};
+ghost use Rattle.luau_tables.specs.Own.{AreTexts, HasText};
+ghost use Rattle.meta_ops_tests.specs.Ready.{IsNobodys, IsReady, MayStore};
+ghost use Rattle.value_arena.specs.Arenas.{ArenaView, HasTable};
 
 use byte_text::{Interner, StrId};
 use lib_arguments::text_value;
@@ -44,13 +44,13 @@ pub struct World {
     pub names: Interner,
     pub globals: Globals,
     pub tables: u32,
-    ghost ready: { IsReady arena tables },
-    ghost strings: { globals.string_meta ≡ table_of 0 },
 }
 
 impl World {
     /// A world with the metatable of strings alone.
-    pub fn new(rt: &impl AllocGlobal) -> Result<World, OutOfMemory> {
+    pub fn new(rt: &impl AllocGlobal) -> Result<World, OutOfMemory>
+        ensures { IfOk result (λ w. IsReady w) }
+    {
         let mut arena = Arena::new(rt.alloc());
         let mut names = Interner::new(rt.alloc());
         let string_meta = arena.new_table(Owner::Frozen)?;
@@ -71,19 +71,23 @@ impl World {
     }
 
     /// One more table, by its number.
-    pub fn table(&mut self) -> Result<u32, OutOfMemory> {
+    pub fn table(&mut self) -> Result<u32, OutOfMemory>
+        requires { IsReady self.old }
+        ensures { IsReady self.new }
+    {
         let id = self.arena.new_table(Owner::Frozen)?;
-        if id.place == u32::MAX {
-            return Err(OutOfMemory);
+        if id.place < u32::MAX {
+            self.tables = id.place + 1;
         }
-        self.tables = id.place + 1;
         Ok(id.place)
     }
 
     /// The table of a number, and table 0 where there is none.
     pub fn id(&self, number: u32) -> TableId
+        requires { IsReady self.now }
         ensures there { HasTable self.now.arena result }
-        ensures whose { MayStore self.now.arena (Value.Table result) }
+        ensures whose { IsNobodys result }
+        ensures value { MayStore self.now.arena (Value.Table result) }
     {
         let place = if number < self.tables { number } else { 0 };
         TableId {
@@ -92,76 +96,75 @@ impl World {
         }
     }
 
-    /// A value.
-    pub fn value(&mut self, operand: Operand) -> Value
+    // The number of a text.
+    fn noted(&mut self, text: &str) -> StrId
+        requires { IsReady self.old }
+        ensures ready { IsReady self.new }
         ensures arena { self.new.arena ≡ self.old.arena }
-        ensures there { MayStore self.new.arena result }
+    {
+        note(&mut self.names, text.as_bytes())
+    }
+
+    /// A value.
+    pub fn value(&mut self, operand: &Operand) -> Value
+        requires { IsReady self.old }
+        ensures ready { IsReady self.new }
+        ensures arena { self.new.arena ≡ self.old.arena }
+        ensures there { MayStore self.old.arena result }
     {
         match operand {
             Operand::Nil => Value::Nil,
-            Operand::Boolean(b) => Value::Bool(b),
-            Operand::Number(n) => match Whole::new(n) {
+            Operand::Boolean(b) => Value::Bool(*b),
+            Operand::Number(n) => match Whole::new(*n) {
                 Some(number) => Value::Num(number),
                 None => Value::Nil,
             },
-            Operand::Text(text) => Value::Str(note(&mut self.names, text.as_bytes())),
-            Operand::Table(number) => Value::Table(self.id(number)),
-            Operand::Function(builtin) => Value::Native(builtin),
+            Operand::Text(text) => Value::Str(self.noted(text)),
+            Operand::Table(number) => Value::Table(self.id(*number)),
+            Operand::Function(builtin) => Value::Native(*builtin),
         }
     }
 
     /// Two values, whose texts have numbers.
-    pub fn pair(&mut self, a: Operand, b: Operand) -> (Value, Value)
+    pub fn pair(&mut self, a: &Operand, b: &Operand) -> (Value, Value)
+        requires { IsReady self.old }
+        ensures ready { IsReady self.new }
         ensures arena { self.new.arena ≡ self.old.arena }
-        ensures first { MayStore self.new.arena result.0 }
-        ensures second { MayStore self.new.arena result.1 }
+        ensures first { MayStore self.old.arena result.0 }
+        ensures second { MayStore self.old.arena result.1 }
         ensures text { HasText self.new.names result.0 }
         ensures other_text { HasText self.new.names result.1 }
     {
         let first = self.value(a);
         let second = self.value(b);
-        (self.known(first), self.known(second))
-    }
-
-    // The value, or nil where it is a text without a number.
-    fn known(&self, v: Value) -> Value
-        requires { MayStore self.now.arena v }
-        ensures there { MayStore self.now.arena result }
-        ensures text { HasText self.now.names result }
-    {
-        match v {
-            Value::Str(id) => {
-                if id.0 < self.names.count() {
-                    Value::Str(id)
-                } else {
-                    Value::Nil
-                }
-            }
-            other => other,
-        }
+        (known(&self.names, first), known(&self.names, second))
     }
 
     /// The outcome.
-    pub fn outcome(&mut self, expected: Expected) -> Outcome
-        ensures { self.new.arena ≡ self.old.arena }
+    pub fn outcome(&mut self, expected: &Expected) -> Outcome
+        requires { IsReady self.old }
+        ensures ready { IsReady self.new }
+        ensures arena { self.new.arena ≡ self.old.arena }
     {
         match expected {
             Expected::Gives(v) => Outcome::Done(self.value(v)),
-            Expected::Calls(f, a) => self.call(f, a, Operand::Nil, Operand::Nil, 1),
-            Expected::CallsWithTwo(f, a, b) => self.call(f, a, b, Operand::Nil, 2),
-            Expected::CallsWithThree(f, a, b, c) => self.call(f, a, b, c, 3),
+            Expected::Calls(f, a) => self.call(*f, a, &Operand::Nil, &Operand::Nil, 1),
+            Expected::CallsWithTwo(f, a, b) => self.call(*f, a, b, &Operand::Nil, 2),
+            Expected::CallsWithThree(f, a, b, c) => self.call(*f, a, b, c, 3),
             Expected::CannotIndex(base, key) => Outcome::RunError(RunErr::IndexWithName {
-                base,
-                key: note(&mut self.names, key.as_bytes()),
+                base: *base,
+                key: self.noted(key),
             }),
-            Expected::Errs(error) => Outcome::RunError(error),
-            Expected::Stops(stop) => Outcome::Stop(stop),
+            Expected::Errs(error) => Outcome::RunError(*error),
+            Expected::Stops(stop) => Outcome::Stop(*stop),
         }
     }
 
     // A call.
-    fn call(&mut self, f: Builtin, a: Operand, b: Operand, c: Operand, count: u8) -> Outcome
-        ensures { self.new.arena ≡ self.old.arena }
+    fn call(&mut self, f: Builtin, a: &Operand, b: &Operand, c: &Operand, count: u8) -> Outcome
+        requires { IsReady self.old }
+        ensures ready { IsReady self.new }
+        ensures arena { self.new.arena ≡ self.old.arena }
     {
         let first = self.value(a);
         let second = self.value(b);
@@ -173,36 +176,79 @@ impl World {
         }
     }
 
-    /// Stores a value in a table.
-    pub fn store(&mut self, number: u32, key: Operand, v: Operand) {
-        let t = self.id(number);
-        let (key, stored) = self.pair(key, v);
-        let _ = write(&mut self.arena, t, key, stored);
+    // Writes a value.
+    fn put(&mut self, t: TableId, key: Value, v: Value)
+        requires ready { IsReady self.old }
+        requires there { HasTable self.old.arena t }
+        requires whose { IsNobodys t }
+        requires key { MayStore self.old.arena key }
+        requires value { MayStore self.old.arena v }
+        ensures { IsReady self.new }
+    {
+        let _ = write(&mut self.arena, t, key, v);
     }
 
-    /// Stores a function or another value under the name of a metamethod.
-    pub fn say(&mut self, number: u32, name: StrId, v: Operand) {
+    /// Stores a value in a table.
+    pub fn store(&mut self, number: u32, key: &Operand, v: &Operand)
+        requires { IsReady self.old }
+        ensures { IsReady self.new }
+    {
+        let t = self.id(number);
+        let (key, stored) = self.pair(key, v);
+        self.put(t, key, stored);
+    }
+
+    /// Stores a value under the name of a metamethod.
+    pub fn say(&mut self, number: u32, name: StrId, v: &Operand)
+        requires { IsReady self.old }
+        ensures { IsReady self.new }
+    {
         let t = self.id(number);
         let stored = self.value(v);
-        let _ = write(&mut self.arena, t, Value::Str(name), stored);
+        self.put(t, Value::Str(name), stored);
     }
 
     /// Gives a table a metatable.
-    pub fn give(&mut self, number: u32, meta: u32) {
+    pub fn give(&mut self, number: u32, meta: u32)
+        requires { IsReady self.old }
+        ensures { IsReady self.new }
+    {
         let t = self.id(number);
         let m = self.id(meta);
         let _ = set_meta(&mut self.arena, t, Some(m));
     }
 
     /// Freezes a table.
-    pub fn freeze(&mut self, number: u32) {
+    pub fn freeze(&mut self, number: u32)
+        requires { IsReady self.old }
+        ensures { IsReady self.new }
+    {
         let t = self.id(number);
         self.arena.freeze(t);
     }
 }
 
+// The value, or nil where it is a text without a number.
+fn known(names: &Interner, v: Value) -> Value
+    ensures text { HasText names.now result }
+    ensures there { (a : ArenaView) → MayStore a v → MayStore a result }
+{
+    match v {
+        Value::Str(id) => {
+            if id.0 < names.count() {
+                Value::Str(id)
+            } else {
+                Value::Nil
+            }
+        }
+        other => other,
+    }
+}
+
 // The names of metamethods.
-fn meta_names(names: &mut Interner) -> MetaNames {
+fn meta_names(names: &mut Interner) -> MetaNames
+    ensures { AreTexts names.old → AreTexts names.new }
+{
     MetaNames {
         index: note(names, b"__index"),
         newindex: note(names, b"__newindex"),
@@ -227,7 +273,9 @@ fn meta_names(names: &mut Interner) -> MetaNames {
 }
 
 // The number of a text.
-fn note(names: &mut Interner, text: &[u8]) -> StrId {
+fn note(names: &mut Interner, text: &[u8]) -> StrId
+    ensures { AreTexts names.old → AreTexts names.new }
+{
     match text_value(names, text) {
         Ok(id) => id,
         Err(OutOfMemory) => StrId::PRINT,
