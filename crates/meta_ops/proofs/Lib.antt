@@ -1,4 +1,5 @@
 pub mod Borders
+pub mod CallsKept
 pub mod Chains
 pub mod IndexKept
 pub mod JoiningKept

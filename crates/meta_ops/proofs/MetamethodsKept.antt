@@ -81,18 +81,21 @@ module _ (texts : List Bytes) (g : Globals) (a : ArenaView) (w : Owner) (own : I
   -- ---- and it means what the part says
 
   module _ (name : StrId) (bytes : Bytes) (named : slice_get texts name.0 ≡ Some bytes) where
-    said_by_table_part : (t : TableId) → May (value.Table t) → get (store.table_at part (table_ref t)) (m.Text bytes) ≡ meant texts (kept.said_by_table a t name)
+    said_by_table_part : (t : TableId) → May (value.Table t) →
+        get (store.table_at part (table_ref t)) (m.Text bytes) ≡ meant texts (kept.said_by_table a t name)
     unfolding meant
     said_by_table_part t h =
         ap (λ b. get (store.table_at part (table_ref t)) (m.Text b)) (sym (text_is texts name.0 bytes named))
         ∙ get_part texts g a w own t (value.Str name) h (tt, number_below texts name.0 bytes named)
 
-    said_by_part : (meta : Option TableId) → OfSome (λ m. May (value.Table m)) meta → model.said_by part (option_map table_ref meta) bytes ≡ meant texts (kept.said_by a meta name)
+    said_by_part : (meta : Option TableId) → OfSome (λ m. May (value.Table m)) meta →
+        model.said_by part (option_map table_ref meta) bytes ≡ meant texts (kept.said_by a meta name)
     unfolding meant
     said_by_part None h = refl
     said_by_part (Some t) h = said_by_table_part t h
 
-    pub metamethod_part : (v : Value) → MayUse texts a w v → model.metamethod (store_of texts g a w) (meant texts v) bytes ≡ meant texts (kept.metamethod a g v name)
+    pub metamethod_part : (v : Value) → MayUse texts a w v →
+        model.metamethod (store_of texts g a w) (meant texts v) bytes ≡ meant texts (kept.metamethod a g v name)
     unfolding meant model.metamethod kept.metamethod store_of
     metamethod_part (value.Table t) h =
         ap (λ meta. model.said_by (store_of texts g a w) meta bytes) (meta_part texts g a w own t h)
@@ -100,7 +103,8 @@ module _ (texts : List Bytes) (g : Globals) (a : ArenaView) (w : Owner) (own : I
     metamethod_part (value.Str x) h = said_by_table_part g.string_meta strings_usable
     metamethod_part _ h = refl
 
-    pub of_two_part : (v u : Value) → MayUse texts a w v → MayUse texts a w u → model.metamethod_of_two (store_of texts g a w) (meant texts v) (meant texts u) bytes ≡ meant texts (kept.metamethod_of_two a g v u name)
+    pub of_two_part : (v u : Value) → MayUse texts a w v → MayUse texts a w u →
+        model.metamethod_of_two (store_of texts g a w) (meant texts v) (meant texts u) bytes ≡ meant texts (kept.metamethod_of_two a g v u name)
     unfolding meant
     of_two_part v u h k =
         ap (λ x. model.either x (model.metamethod part (meant texts u) bytes)) (metamethod_part v h)

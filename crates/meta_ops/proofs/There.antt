@@ -73,11 +73,13 @@ module _ (a : ArenaView) (owned : IsOwned a) where
   pub asked_next : (g : Globals) (t : TableId) (key : Value) → OfNext (IsThere a) (kept.index_asked a g t key)
   asked_next g t key = by (kept.is_nil (rule.get (table_at a t) key))
     where
-      by : (b : Bool) → OfNext (IsThere a) (cond b (kept.by_index t key (kept.said_by a (table_at a t).meta g.meta.index)) (Ends (Done (rule.get (table_at a t) key))))
+      by : (b : Bool) →
+          OfNext (IsThere a) (cond b (kept.by_index t key (kept.said_by a (table_at a t).meta g.meta.index)) (Ends (Done (rule.get (table_at a t) key))))
       by true = by_index_next t key (kept.said_by a (table_at a t).meta g.meta.index) (said_by_there (table_at a t).meta g.meta.index)
       by false = tt
 
-  pub beyond_next : (g : Globals) (t : TableId) (key : Value) → OfNext (IsThere a) (kept.by_index t key (kept.said_by a (table_at a t).meta g.meta.index))
+  pub beyond_next : (g : Globals) (t : TableId) (key : Value) →
+      OfNext (IsThere a) (kept.by_index t key (kept.said_by a (table_at a t).meta g.meta.index))
   beyond_next g t key = by_index_next t key (kept.said_by a (table_at a t).meta g.meta.index) (said_by_there (table_at a t).meta g.meta.index)
 
   by_newindex_next : (t : TableId) (key v h : Value) → IsThere a h → OfOnward (IsThere a) (kept.by_newindex t key v h)
@@ -107,17 +109,21 @@ module _ (a : ArenaView) (owned : IsOwned a) where
 
   -- ---- by what was answered
 
-  pub table_of_some : (g : Globals) (base : Value) (r : Option TableId) (t : TableId) → IsThere a base → r ≡ kept.indexed_table a g base → r ≡ Some t → HasTable a t
+  pub table_of_some : (g : Globals) (base : Value) (r : Option TableId) (t : TableId) → IsThere a base → r ≡ kept.indexed_table a g base →
+      r ≡ Some t → HasTable a t
   table_of_some g base r t h e f = let P : Option TableId → Type 0 = λ r. OfSome (λ t. HasTable a t) r in subst P (sym e ∙ f) (indexed_there g base h)
 
-  pub next_of_link : (g : Globals) (t : TableId) (key : Value) (link : Link) (v : Value) → link ≡ kept.index_asked a g t key → link ≡ To v → IsThere a v
+  pub next_of_link : (g : Globals) (t : TableId) (key : Value) (link : Link) (v : Value) → link ≡ kept.index_asked a g t key → link ≡ To v →
+      IsThere a v
   next_of_link g t key link v e f = let P : Link → Type 0 = λ l. OfNext (IsThere a) l in subst P (sym e ∙ f) (asked_next g t key)
 
-  pub next_beyond : (g : Globals) (t : TableId) (key : Value) (link : Link) (v : Value) → link ≡ kept.by_index t key (kept.said_by a (table_at a t).meta g.meta.index) → link ≡ To v → IsThere a v
+  pub next_beyond : (g : Globals) (t : TableId) (key : Value) (link : Link) (v : Value) →
+      link ≡ kept.by_index t key (kept.said_by a (table_at a t).meta g.meta.index) → link ≡ To v → IsThere a v
   next_beyond g t key link v e f = let P : Link → Type 0 = λ l. OfNext (IsThere a) l in subst P (sym e ∙ f) (beyond_next g t key)
 
   pub place_of_some : (base : Value) (r : Option TableId) (t : TableId) → IsThere a base → r ≡ kept.as_table base → r ≡ Some t → HasTable a t
   place_of_some base r t h e f = let P : Option TableId → Type 0 = λ r. OfSome (λ t. HasTable a t) r in subst P (sym e ∙ f) (as_table_there base h)
 
-  pub next_of_store : (g : Globals) (t : TableId) (key v : Value) (link : StoreLink) (next : Value) → link ≡ kept.newindex_asked a g t key v → link ≡ Onward next → IsThere a next
+  pub next_of_store : (g : Globals) (t : TableId) (key v : Value) (link : StoreLink) (next : Value) → link ≡ kept.newindex_asked a g t key v →
+      link ≡ Onward next → IsThere a next
   next_of_store g t key v link next e f = let P : StoreLink → Type 0 = λ l. OfOnward (IsThere a) l in subst P (sym e ∙ f) (stored_next g t key v)
