@@ -2,8 +2,4 @@
 #![tactic(auto)]
 
 #[cfg(test)]
-mod chains;
-#[cfg(test)]
-mod choices;
-#[cfg(test)]
-mod world;
+mod tests;
