@@ -12,7 +12,7 @@ use std::process::Abort;
 use std::test::Fail;
 use value_model::{Builtin, Value};
 
-const ROWS: [(Builtin, Given, Given, Given, &str); 102] = [
+static ROWS: [(Builtin, Given, Given, Given, &str); 102] = [
     (Builtin::StringLen, Text("abc"), Nothing, Nothing, " 3"),
     (Builtin::StringLen, Text(""), Nothing, Nothing, " 0"),
     (Builtin::StringLen, Number(-12), Nothing, Nothing, " 3"),
@@ -648,15 +648,10 @@ fn gone_on(rt: &impl AllocGlobal, given: &Given) -> Result<Vec<u8>, Fail> {
         &mut results,
     )?;
     let mut out = Vec::new(rt.alloc());
-    if let LibAnswer::CallBack {
-        callee: _,
-        args: _,
-        then,
-    } = asked
-    {
+    if let LibAnswer::CallBack { callee, args, then } = asked {
+        let _ = (callee, args);
+        let value = value_of(given, &mut world)?;
         if then.builtin == Builtin::StringFormat && then.at < then.args.len() {
-            let value = value_of(given, &mut world)?;
-            results.clear();
             let answer = go_on(rt.alloc(), then, value, &mut world, &mut results)?;
             answer_into(&answer, results.as_slice(), &world, &mut out)?;
         }
