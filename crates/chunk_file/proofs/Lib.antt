@@ -6,3 +6,4 @@ mod ListFields
 mod NumberFields
 mod Readers
 mod WordFields
+mod Written
