@@ -2,6 +2,9 @@
 #![tactic(auto)]
 
 mod error;
+mod fault;
+mod fields;
+mod lists;
 mod reading;
 mod writing;
 
