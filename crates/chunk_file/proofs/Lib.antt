@@ -4,6 +4,7 @@ mod Examples
 mod Fields
 mod ListFields
 mod NumberFields
+mod NumberRead
 mod Readers
 mod WordFields
 mod Written

@@ -3,8 +3,8 @@
 
 mod error;
 mod fault;
-mod fields;
 mod lists;
+mod reader;
 mod reading;
 mod writing;
 

@@ -6,7 +6,7 @@ ghost use Rattle.op_words.specs.Chunks.{proto_of};
 ghost use Rattle.std.specs.Prelude.{map};
 
 use crate::fault::Fault;
-use crate::fields::Reader;
+use crate::reader::Reader;
 use byte_text::Bytes;
 use op_words::{Const, Proto};
 use std::alloc::Global;

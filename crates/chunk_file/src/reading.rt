@@ -7,7 +7,7 @@ ghost use Rattle.std.specs.Prelude.{◌≡◌, MatchResult, length};
 
 use crate::error::ChunkErr;
 use crate::fault::Fault;
-use crate::fields::Reader;
+use crate::reader::Reader;
 use op_words::Chunk;
 use std::alloc::Global;
 

@@ -77,7 +77,7 @@ impl<'a> Reader<'a> {
         let mut number: u64 = 0;
         let mut unit: u64 = 1;
         let mut limit: u64 = 1 << 32;
-        for place in 0..5 {
+        for place in 0..5u8 {
             let Some(byte) = self.next() else {
                 return Err(Fault::Ends);
             };
