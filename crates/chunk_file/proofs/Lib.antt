@@ -5,6 +5,7 @@ mod Fields
 mod ListFields
 mod NumberFields
 mod NumberRead
+mod ReadTimes
 mod Readers
 mod WordFields
 mod Written

@@ -2,7 +2,8 @@
 
 ghost use Rattle.chunk_file.specs.Answers.{Gives};
 ghost use Rattle.chunk_file.specs.Reading as spec;
-ghost use Rattle.std.specs.Prelude.{◌≡◌, List, [], ◌∷◌, ℕ, MatchOption, IsTrue, length};
+ghost use Rattle.std.specs.Int.{w64, from_le_bytes};
+ghost use Rattle.std.specs.Prelude.{◌<◌, ◌||◌, nat_lt, ◌≡◌, List, [], ◌∷◌, ℕ, MatchOption, IsTrue, length};
 
 use crate::fault::Fault;
 use byteorder::{ByteOrder, LittleEndian};
@@ -17,7 +18,8 @@ pub(crate) struct Reader<'a> {
 }
 
 impl<'a> Model for Reader<'a> {
-    ghost use Rattle.std.specs.Prelude.{ℕ, List};
+    ghost use Rattle.std.specs.Int.{w64, from_le_bytes};
+ghost use Rattle.std.specs.Prelude.{◌<◌, ◌||◌, nat_lt, ℕ, List};
 
     ghost Value = { List ℕ };
 
@@ -124,11 +126,17 @@ impl<'a> Reader<'a> {
         let left = self.left;
         let wrong = Fault::Wrong { left: left.len() };
         if left.len() < 8 {
-            return Err(if may_go_on(left) { Fault::Ends } else { wrong });
+            if may_go_on(left) {
+                return Err(Fault::Ends);
+            }
+            return Err(wrong);
         }
-        let number = LittleEndian::read_i64(left);
-        self.left = &left[8..];
-        Whole::new(number).ok_or(wrong)
+        let (eight, rest) = left.split_at(8);
+        self.left = rest;
+        let Some(whole) = Whole::new(LittleEndian::read_i64(eight)) else {
+            return Err(wrong);
+        };
+        Ok(whole)
     }
 
     pub(crate) fn constant(&mut self) -> Result<Const, Fault>
@@ -148,7 +156,10 @@ impl<'a> Reader<'a> {
 }
 
 // Whether fewer than eight bytes begin a whole number in range.
-fn may_go_on(bytes: &[u8]) -> bool {
+fn may_go_on(bytes: &[u8]) -> bool
+    requires { length bytes.now < 8 }
+    ensures { result ≡ (nat_lt (length bytes.now) 7 || spec.may_go_on (from_le_bytes w64 bytes.now)) }
+{
     if bytes.len() < 7 {
         return true;
     }
