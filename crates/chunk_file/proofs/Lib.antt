@@ -2,6 +2,7 @@ mod ChunkFields
 mod ConstantFields
 mod Examples
 mod Fields
+mod Head
 mod ListFields
 mod NumberFields
 mod NumberRead

@@ -1,9 +1,9 @@
 //! Bytes to chunks.
 
-ghost use Rattle.chunk_file.specs.Answers.{Answers, IsFault, Gives};
+ghost use Rattle.chunk_file.specs.Answers.{Answers, Fails, Gives, IsFault};
 ghost use Rattle.chunk_file.specs.Reading as spec;
-ghost use Rattle.op_words.specs.Chunks.{chunk_of};
-ghost use Rattle.std.specs.Prelude.{◌≡◌, MatchResult, length};
+ghost use Rattle.op_words.specs.Chunks.{ChunkOf, chunk_of};
+ghost use Rattle.std.specs.Prelude.{◌≡◌, ◌≤◌, IfErr, OnOk, drop, length};
 
 use crate::error::ChunkErr;
 use crate::fault::Fault;
@@ -18,28 +18,11 @@ const MAGIC: [u8; 4] = [0x4C, 0x57, 0x43, 0x48];
 pub fn read(alloc: Global, bytes: &[u8]) -> Result<Chunk, ChunkErr>
     ensures reads { Answers (spec.read_file bytes.now) result }
 {
-    for (at, wanted) in MAGIC.iter().enumerate() {
-        match bytes.get(at) {
-            None => return Err(ChunkErr::Truncated { at }),
-            Some(byte) if byte != wanted => return Err(ChunkErr::BadMagic { at }),
-            Some(_) => {}
-        }
-    }
-    match bytes.get(4) {
-        None => return Err(ChunkErr::Truncated { at: 4 }),
-        Some(1) => {}
-        Some(_) => return Err(ChunkErr::BadVersion { at: 4 }),
-    }
+    check_head(bytes)?;
     let mut reader = Reader::new(&bytes[5..]);
     let chunk = match contents(alloc, &mut reader) {
         Ok(chunk) => chunk,
-        Err(Fault::Ends) => return Err(ChunkErr::Truncated { at: bytes.len() }),
-        Err(Fault::Wrong { left }) => {
-            return Err(ChunkErr::BadField {
-                at: bytes.len() - left,
-            });
-        }
-        Err(Fault::OutOfMemory) => return Err(ChunkErr::OutOfMemory),
+        Err(fault) => return Err(located(fault, bytes)),
     };
     let left = reader.len();
     if left > 0 {
@@ -48,6 +31,42 @@ pub fn read(alloc: Global, bytes: &[u8]) -> Result<Chunk, ChunkErr>
         });
     }
     Ok(chunk)
+}
+
+// That the magic and the version stand first.
+fn check_head(bytes: &[u8]) -> Result<(), ChunkErr>
+    ensures room { OnOk result (5 ≤ length bytes.now) }
+    ensures goes_on { OnOk result (spec.read_file bytes.now ≡ spec.contents bytes.now (spec.read_contents (drop 5 bytes.now))) }
+    ensures refuses { IfErr result (λ error. IsFault (spec.read_file bytes.now) error) }
+{
+    for (at, wanted) in MAGIC.iter().enumerate() {
+        let Some(byte) = bytes.get(at) else {
+            return Err(ChunkErr::Truncated { at: bytes.len() });
+        };
+        if *byte != *wanted {
+            return Err(ChunkErr::BadMagic { at });
+        }
+    }
+    let Some(version) = bytes.get(4) else {
+        return Err(ChunkErr::Truncated { at: bytes.len() });
+    };
+    if *version != 1 {
+        return Err(ChunkErr::BadVersion { at: 4 });
+    }
+    Ok(())
+}
+
+// A fault with its place in the bytes of the file.
+fn located(fault: Fault, bytes: &[u8]) -> ChunkErr
+    ensures { (found : spec.Found ChunkOf) → Fails found fault → IsFault (spec.contents bytes.now found) result }
+{
+    match fault {
+        Fault::Ends => ChunkErr::Truncated { at: bytes.len() },
+        Fault::Wrong { left } => ChunkErr::BadField {
+            at: bytes.len().saturating_sub(left),
+        },
+        Fault::OutOfMemory => ChunkErr::OutOfMemory,
+    }
 }
 
 // What stands behind the version.
