@@ -19,7 +19,7 @@ pub(crate) struct Reader<'a> {
 
 impl<'a> Model for Reader<'a> {
     ghost use Rattle.std.specs.Int.{w64, from_le_bytes};
-ghost use Rattle.std.specs.Prelude.{◌<◌, ◌||◌, nat_lt, ℕ, List};
+    ghost use Rattle.std.specs.Prelude.{◌<◌, ◌||◌, nat_lt, ℕ, List};
 
     ghost Value = { List ℕ };
 

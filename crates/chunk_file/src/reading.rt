@@ -3,7 +3,7 @@
 ghost use Rattle.chunk_file.specs.Answers.{Answers, Fails, Gives, IsFault};
 ghost use Rattle.chunk_file.specs.Reading as spec;
 ghost use Rattle.op_words.specs.Chunks.{ChunkOf, chunk_of};
-ghost use Rattle.std.specs.Prelude.{◌≡◌, ◌≤◌, IfErr, OnOk, drop, length};
+ghost use Rattle.std.specs.Prelude.{◌≡◌, ◌-◌, ◌≤◌, IfErr, OnOk, drop, length};
 
 use crate::error::ChunkErr;
 use crate::fault::Fault;
@@ -27,7 +27,7 @@ pub fn read(alloc: Global, bytes: &[u8]) -> Result<Chunk, ChunkErr>
     let left = reader.len();
     if left > 0 {
         return Err(ChunkErr::Trailing {
-            at: bytes.len() - left,
+            at: place(bytes, left),
         });
     }
     Ok(chunk)
@@ -63,10 +63,17 @@ fn located(fault: Fault, bytes: &[u8]) -> ChunkErr
     match fault {
         Fault::Ends => ChunkErr::Truncated { at: bytes.len() },
         Fault::Wrong { left } => ChunkErr::BadField {
-            at: bytes.len().saturating_sub(left),
+            at: place(bytes, left),
         },
         Fault::OutOfMemory => ChunkErr::OutOfMemory,
     }
+}
+
+// The place from which on so many of the bytes are left.
+fn place(bytes: &[u8], left: usize) -> usize
+    ensures { result ≡ length bytes.now - left }
+{
+    bytes.len().saturating_sub(left)
 }
 
 // What stands behind the version.
