@@ -135,6 +135,14 @@ constant_wrong (suc (suc (suc (suc (suc zero)))) ∷ bs) more are w = named_wron
 constant_wrong (suc (suc (suc (suc (suc (suc n))))) ∷ bs) more are w =
     subst IsWrong (sym (no_kind n (suc (suc (suc (suc (suc (suc n))))) ∷ (bs ++ more)) (bs ++ more))) tt
 
+constant_bytes : (k : Const) → HasBits k → AreBytes (constant k)
+constant_bytes const.Nil bits = (omega arith, tt)
+constant_bytes const.False bits = (omega arith, tt)
+constant_bytes const.True bits = (omega arith, tt)
+constant_bytes (const.Num z) bits = (omega arith, whole_reads.bytes z _ (record { within = bits; spelled = refl }))
+constant_bytes (const.Str i) bits = (omega arith, number_reads.bytes i _ (record { small = bits; spelled = refl }))
+constant_bytes (const.Import w) bits = (omega arith, word_reads.bytes w _ (record { small = bits; spelled = refl }))
+
 pub constant_reads : IsReader read_constant IsConstant
 constant_reads =
     record {
@@ -142,5 +150,6 @@ constant_reads =
       back = constant_back;
       ends = constant_ends;
       wrong = constant_wrong;
+      bytes = λ k front is. subst AreBytes (sym is.spelled) (constant_bytes k is.bits);
       example = record { value = const.Nil; bytes = 0 ∷ []; is = record { bits = tt; spelled = refl } };
     }

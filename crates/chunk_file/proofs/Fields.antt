@@ -5,7 +5,7 @@ use Rattle.std.specs.List.{AllByRecursion}
 use Rattle.chunk_file.specs.Laws.{AreBytes}
 use Rattle.chunk_file.specs.Spelling.{IsByte, flag}
 use Rattle.chunk_file.specs.Reading.{Found, Read, Ends, Wrong, read_byte, read_flag, read_bytes}
-use Rattle.chunk_file.proofs.Readers.{IsReadFrom, Begins, Example, IsWrong, IsReader, bytes_behind, bytes_in_front}
+use Rattle.chunk_file.proofs.Readers.{IsReadFrom, Begins, Example, IsWrong, IsReader, bytes_behind, bytes_in_front, bytes_joined}
 
 -- ---- a byte
 
@@ -20,6 +20,7 @@ byte_reads =
       back = back;
       ends = ends;
       wrong = wrong;
+      bytes = λ b front is. subst AreBytes (sym is.one) (is.byte, tt);
       example = record { value = 0; bytes = 0 ∷ []; is = record { byte = omega arith; one = refl } };
     }
   where
@@ -53,6 +54,7 @@ flag_reads =
       back = back;
       ends = ends;
       wrong = wrong;
+      bytes = bytes;
       example = record { value = false; bytes = 0 ∷ []; is = refl };
     }
   where
@@ -80,6 +82,10 @@ flag_reads =
     ends [] are e = record { value = false; bytes = 0 ∷ []; is = refl; more = 0 ∷ []; some = λ e. absurd (cc); begins = refl }
     ends (c ∷ cs) are e = absurd (never c cs (nat_eq c 0) (nat_eq c 1) e)
 
+    bytes : (v : Bool) (front : List ℕ) → IsFlag v front → AreBytes front
+    bytes false front is = subst AreBytes (sym is) (omega arith, tt)
+    bytes true front is = subst AreBytes (sym is) (omega arith, tt)
+
     still : (z o : Bool) (c : ℕ) (cs more : List ℕ) → IsWrong (flagged z o c cs) → IsWrong (flagged z o c (cs ++ more))
     still true o c cs more w = absurd w
     still false true c cs more w = absurd w
@@ -96,7 +102,7 @@ pub record IsPiece (count : ℕ) (piece bytes : List ℕ) : Type 0 where
   pub are : AreBytes piece
   pub same : bytes ≡ piece
 
-take_all : (xs ys : List ℕ) → take (length xs) (xs ++ ys) ≡ xs
+pub take_all : (xs ys : List ℕ) → take (length xs) (xs ++ ys) ≡ xs
 take_all [] ys = refl
 take_all (x ∷ xs) ys = ap (λ t. x ∷ t) (take_all xs ys)
 
@@ -104,7 +110,7 @@ drop_all : (xs ys : List ℕ) → drop (length xs) (xs ++ ys) ≡ ys
 drop_all [] ys = refl
 drop_all (x ∷ xs) ys = drop_all xs ys
 
-long : (xs ys : List ℕ) → length xs ≤ length (xs ++ ys)
+pub long : (xs ys : List ℕ) → length xs ≤ length (xs ++ ys)
 long [] ys = omega arith
 long (x ∷ xs) ys = omega (arith, long xs ys)
 
@@ -132,10 +138,6 @@ zeros_many (suc n) = ap suc (zeros_many n)
 joined_many : (xs ys : List ℕ) → length (xs ++ ys) ≡ length xs + length ys
 joined_many [] ys = omega arith
 joined_many (x ∷ xs) ys = omega (arith, joined_many xs ys)
-
-joined_bytes : (xs ys : List ℕ) → AreBytes xs → AreBytes ys → AreBytes (xs ++ ys)
-joined_bytes [] ys h k = k
-joined_bytes (x ∷ xs) ys h k = (h.0, joined_bytes xs ys h.1 k)
 
 module _ (count : ℕ) where
   abbrev piece_if : Bool → List ℕ → Found (List ℕ)
@@ -175,7 +177,7 @@ module _ (count : ℕ) where
         bytes = bs ++ more;
         is = record {
           many = omega (arith, joined_many bs more, zeros_many (count - length bs), less);
-          are = joined_bytes bs more are (zeros (count - length bs));
+          are = bytes_joined bs more are (zeros (count - length bs));
           same = refl;
         };
         more = more;
@@ -197,6 +199,7 @@ module _ (count : ℕ) where
         forward = piece_forward;
         back = λ bs are piece rest e. piece_back bs are piece rest (nat_le count (length bs)) refl e;
         ends = λ bs are e. piece_ends bs are (nat_le count (length bs)) refl e;
+        bytes = λ piece front is. subst AreBytes (sym is.same) is.are;
         wrong = λ bs more are w. absurd (piece_never (nat_le count (length bs)) bs w);
         example = record { value = filling count; bytes = filling count; is = record { many = zeros_many count; are = zeros count; same = refl } };
       }

@@ -1,7 +1,10 @@
 mod ChunkFields
 mod ConstantFields
+mod ContentFields
 mod Examples
 mod Fields
+mod FilesCut
+mod FilesRead
 mod Head
 mod ListFields
 mod NumberFields

@@ -242,6 +242,16 @@ number_wrong (suc k) first field field' (b ∷ bs) more h = by (number_wrong k f
         subst IsWrong (sym (read_more k first field' b (bs ++ more) over))
         (still_wrong b (number_from (suc k) (limit_of k) false field bs) (number_from (suc k) (limit_of k) false field' (bs ++ more)) next (subst IsWrong (read_more k first field b bs over) h))
 
+-- ---- its bytes
+
+number_bytes : (most n : ℕ) → AreBytes (number_within most n)
+number_bytes zero n = tt
+number_bytes (suc most) n = by (number_bytes most (n / 128)) (nat_lt n 128) refl
+  where
+    by : AreBytes (number_within most (n / 128)) → (b : Bool) → nat_lt n 128 ≡ b → AreBytes (if b then n ∷ [] else (n % 128 + 128) ∷ number_within most (n / 128))
+    by rest true e = let less = ltb-true n 128 e in (omega (arith, less), tt)
+    by rest false e = (omega arith, rest)
+
 -- ---- numbers below 2 ^ 32
 
 pub record IsNumberOf (n : ℕ) (bytes : List ℕ) : Type 0 where
@@ -262,6 +272,7 @@ number_reads =
         some = r.some;
         begins = r.begins;
       };
+      bytes = λ n front is. subst AreBytes (sym is.spelled) (number_bytes 5 n);
       wrong = λ bs more are w. number_wrong 4 true bs (bs ++ more) bs more w;
       example = record { value = 0; bytes = 0 ∷ []; is = record { small = omega arith; spelled = refl } };
     }

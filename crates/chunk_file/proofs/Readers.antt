@@ -35,6 +35,7 @@ pub record IsReader {A : Type 0} (read : List ℕ → Found A) (Is : A → List 
   pub back : (bs : List ℕ) → AreBytes bs → (a : A) (rest : List ℕ) → read bs ≡ Read a rest → IsReadFrom Is bs a rest
   pub ends : (bs : List ℕ) → AreBytes bs → read bs ≡ Ends → Begins Is bs
   pub wrong : (bs more : List ℕ) → AreBytes (bs ++ more) → IsWrong (read bs) → IsWrong (read (bs ++ more))
+  pub bytes : (a : A) (front : List ℕ) → Is a front → AreBytes front
   pub example : Example Is
 
 -- the same of what is spelled alike
@@ -52,6 +53,7 @@ converted read Is Is' to from reads =
         begins = r.begins;
       };
       wrong = reads.wrong;
+      bytes = λ a front is. reads.bytes a front (from a front is);
       example = let r = reads.example in record { value = r.value; bytes = r.bytes; is = to r.value r.bytes r.is };
     }
 
@@ -64,6 +66,10 @@ bytes_behind (b ∷ bs) rest h = bytes_behind bs rest h.1
 pub bytes_in_front : (front rest : List ℕ) → AreBytes (front ++ rest) → AreBytes front
 bytes_in_front [] rest h = tt
 bytes_in_front (b ∷ bs) rest h = (h.0, bytes_in_front bs rest h.1)
+
+pub bytes_joined : (xs ys : List ℕ) → AreBytes xs → AreBytes ys → AreBytes (xs ++ ys)
+bytes_joined [] ys h k = k
+bytes_joined (x ∷ xs) ys h k = (h.0, bytes_joined xs ys h.1 k)
 
 pub not_empty : (xs ys : List ℕ) → xs ≢ [] → xs ++ ys ≢ []
 not_empty [] ys some e = some refl
@@ -88,6 +94,7 @@ only_reads a =
       back = λ bs are b rest e. let h = only_inner a b bs rest e in record { front = []; is = record { value = h.0; none = refl }; bytes = h.1 };
       ends = λ bs are e. absurd (cc);
       wrong = λ bs more are w. absurd w;
+      bytes = λ b front is. subst AreBytes (sym is.none) tt;
       example = record { value = a; bytes = []; is = record { value = refl; none = refl } };
     }
 
@@ -169,6 +176,7 @@ module _ {A B : Type 0} (ra : List ℕ → Found A) (k : A → List ℕ → Foun
         back = λ bs are b rest e. back_from bs are b rest (ra bs) refl e;
         ends = λ bs are e. ends_from bs are (ra bs) refl e;
         wrong = λ bs more are w. wrong_from bs more are (ra bs) refl w;
+        bytes = λ b front t. subst AreBytes (sym t.joined) (bytes_joined t.front t.back (reads.bytes t.first t.front t.is) ((then t.first).bytes b t.back t.then));
         example = let first = reads.example in let second = (then first.value).example in record {
           value = second.value;
           bytes = first.bytes ++ second.bytes;

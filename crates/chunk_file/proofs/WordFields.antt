@@ -5,14 +5,14 @@ use Rattle.std.proofs.Math.Facts.{Fits-lt-pow, Fits-of_z, to_z-neg}
 use Rattle.std.specs.Prelude.{FitsSigned}
 use Rattle.whole_num.specs.Whole.{is_whole}
 use Rattle.std.specs.Int.{w32, w64, cast_signed, cast_unsigned, to_le_bytes, from_le_bytes}
-use Rattle.std.proofs.lemmas.Bool.{ltb-true, lt-ltb, ltb-false, le-ltb, leb-true, leb-false, le-leb, lt-leb, and_parts}
+use Rattle.std.proofs.lemmas.Bool.{ltb-true, lt-ltb, ltb-false, le-ltb, leb-true, leb-false, le-leb, lt-leb, cases_lt, and_parts}
 use Rattle.std.proofs.lemmas.List.{append-nil}
 use Rattle.std.proofs.lemmas.Nat.{le_bytes_4, le_bytes_8, from_le_bytes-to_le_bytes_4, from_le_bytes-to_le_bytes_8}
 use Rattle.chunk_file.specs.Laws.{AreBytes}
 use Rattle.chunk_file.specs.Spelling.{IsByte, IsNumber, word, whole}
 use Rattle.chunk_file.specs.Reading.{Found, Read, Ends, Wrong, read_bytes, read_word, read_whole, cut_whole, whole_in, may_go_on}
 use Rattle.chunk_file.proofs.Readers.{IsReadFrom, Begins, Example, IsWrong, IsReader, bytes_in_front, IsNothing, Then, converted, only_reads, then_reads}
-use Rattle.chunk_file.proofs.Fields.{IsPiece, piece_reads, take_drop, taken, zeros}
+use Rattle.chunk_file.proofs.Fields.{IsPiece, piece_reads, take_all, long, take_drop, taken, zeros}
 
 pub byte_in : (bs : List ℕ) → AreBytes bs → (i : ℕ) → get_or bs i 0 < 256
 byte_in [] are i = omega arith
@@ -210,7 +210,7 @@ whole_ends (a ∷ b ∷ c ∷ d ∷ f ∷ g ∷ h ∷ i ∷ bs) are e =
 -- ---- what is wrong stays so
 
 outside_positive : (n : ℕ) → 2 ^ 53 < n → n < 2 ^ 63 → is_whole (cast_signed w64 n) ≡ false
-outside_positive n large less = ap is_whole (to_z_pos w64 n less) ∙ lt-leb (2 ^ 53) n large
+outside_positive n large less = ap is_whole (to_z_pos w64 n less) ∙ lt-leb n (2 ^ 53) large
 
 outside_negative : (n : ℕ) → 2 ^ 63 ≤ n → n < 2 ^ 64 - 2 ^ 53 → is_whole (cast_signed w64 n) ≡ false
 outside_negative n large less =
@@ -218,7 +218,7 @@ outside_negative n large less =
     let same : n ≡ 2 ^ 64 - suc k = omega (arith, less) in
     let over : 2 ^ 53 - 1 < k = omega (arith, less) in
     let low : k < 2 ^ 63 = omega (arith, large) in
-    ap (λ m. is_whole (cast_signed w64 m)) same ∙ ap is_whole (to_z-neg w64 k low) ∙ ap (λ b. b && true) (lt-leb (2 ^ 53 - 1) k over)
+    ap (λ m. is_whole (cast_signed w64 m)) same ∙ ap is_whole (to_z-neg w64 k low) ∙ ap (λ b. b && true) (lt-leb k (2 ^ 53 - 1) over)
 
 in_wrong : (b : Bool) (v : ℤ) (left more field field' : List ℕ) → IsWrong (if b then Read v left else Wrong field) → b ≡ false
 in_wrong true v left more field field' w = absurd w
@@ -236,12 +236,54 @@ not_seven true c n e f h = absurd (cc)
 not_seven false true n e f h = absurd (cc)
 not_seven false false n e f h = (leb-false n (2 ^ 53) e, leb-false (2 ^ 56 - 2 ^ 53) n f)
 
+eight_wrong : (eight all rest : List ℕ) → is_whole (cast_signed w64 (from_le_bytes w64 eight)) ≡ false → all ≡ eight ++ rest → length eight ≡ 8 → IsWrong (read_whole all)
+eight_wrong eight all rest outside split many = subst (λ x. IsWrong (read_whole x)) (sym split) inner
+  where
+    e : List ℕ
+    e = eight ++ rest
+
+    taken_is : take 8 e ≡ eight
+    taken_is = ap (λ n. take n e) (sym many) ∙ take_all eight rest
+
+    enough : 8 ≤ length e
+    enough = subst (λ n. n ≤ length e) many (long eight rest)
+
+    inner : IsWrong (read_whole e)
+    inner =
+        subst (λ b. IsWrong (if b then whole_in e (cast_signed w64 (from_le_bytes w64 (take 8 e))) (drop 8 e) else cut_whole e)) (sym (le-leb 8 (length e) enough))
+        (wrong_in (cast_signed w64 (from_le_bytes w64 (take 8 e))) e (drop 8 e) (ap (λ x. is_whole (cast_signed w64 (from_le_bytes w64 x))) taken_is ∙ outside))
+
+whole_wrong : (bs more : List ℕ) → AreBytes (bs ++ more) → IsWrong (read_whole bs) → IsWrong (read_whole (bs ++ more))
+whole_wrong [] more are w = absurd w
+whole_wrong (a ∷ []) more are w = absurd w
+whole_wrong (a ∷ b ∷ []) more are w = absurd w
+whole_wrong (a ∷ b ∷ c ∷ []) more are w = absurd w
+whole_wrong (a ∷ b ∷ c ∷ d ∷ []) more are w = absurd w
+whole_wrong (a ∷ b ∷ c ∷ d ∷ f ∷ []) more are w = absurd w
+whole_wrong (a ∷ b ∷ c ∷ d ∷ f ∷ g ∷ []) more are w = absurd w
+whole_wrong (a ∷ b ∷ c ∷ d ∷ f ∷ g ∷ h ∷ []) [] are w = w
+whole_wrong (a ∷ b ∷ c ∷ d ∷ f ∷ g ∷ h ∷ []) (i ∷ ms) are w =
+    let n = from_le_bytes w64 (a ∷ b ∷ c ∷ d ∷ f ∷ g ∷ h ∷ []) in
+    let outside = not_seven (nat_le n (2 ^ 53)) (nat_le (2 ^ 56 - 2 ^ 53) n) n refl refl (cut_wrong (may_go_on n) (a ∷ b ∷ c ∷ d ∷ f ∷ g ∷ h ∷ []) w) in
+    eight_wrong (a ∷ b ∷ c ∷ d ∷ f ∷ g ∷ h ∷ i ∷ []) (a ∷ b ∷ c ∷ d ∷ f ∷ g ∷ h ∷ i ∷ ms) ms (by (cases_lt i 128) outside.0 outside.1) refl refl
+  where
+    by : (i < 128) ⊎ (128 ≤ i) → 2 ^ 53 < from_le_bytes w64 (a ∷ b ∷ c ∷ d ∷ f ∷ g ∷ h ∷ []) → from_le_bytes w64 (a ∷ b ∷ c ∷ d ∷ f ∷ g ∷ h ∷ []) < 2 ^ 56 - 2 ^ 53 → is_whole (cast_signed w64 (from_le_bytes w64 (a ∷ b ∷ c ∷ d ∷ f ∷ g ∷ h ∷ i ∷ []))) ≡ false
+    by (inl low) over under = outside_positive (from_le_bytes w64 (a ∷ b ∷ c ∷ d ∷ f ∷ g ∷ h ∷ i ∷ [])) (omega (arith, over)) (omega (arith, under, low))
+    by (inr high) over under = let byte : i < 256 = are.1.1.1.1.1.1.1.0 in outside_negative (from_le_bytes w64 (a ∷ b ∷ c ∷ d ∷ f ∷ g ∷ h ∷ i ∷ [])) (omega (arith, high)) (omega (arith, under, byte))
+whole_wrong (a ∷ b ∷ c ∷ d ∷ f ∷ g ∷ h ∷ i ∷ ms) more are w =
+    let v = cast_signed w64 (from_le_bytes w64 (a ∷ b ∷ c ∷ d ∷ f ∷ g ∷ h ∷ i ∷ [])) in
+    let all : List ℕ = a ∷ b ∷ c ∷ d ∷ f ∷ g ∷ h ∷ i ∷ ms in
+    let many : 8 ≤ length all = omega arith in
+    let inner : IsWrong (whole_in all v ms) = subst (λ b. IsWrong (if b then whole_in all v ms else cut_whole all)) (le-leb 8 (length all) many) w in
+    eight_wrong (a ∷ b ∷ c ∷ d ∷ f ∷ g ∷ h ∷ i ∷ []) (a ∷ b ∷ c ∷ d ∷ f ∷ g ∷ h ∷ i ∷ (ms ++ more)) (ms ++ more) (in_wrong (is_whole v) v ms more all all inner) refl refl
+
 pub whole_reads : IsReader read_whole IsWholeOf
 whole_reads =
     record {
       forward = λ z front rest is. ap (λ bs. read_whole (bs ++ rest)) is.spelled ∙ whole_forward z rest is.within;
       back = λ bs are z rest e. whole_back bs are z rest (nat_le 8 (length bs)) refl e;
       ends = whole_ends;
-      wrong = ?;
+      wrong = whole_wrong;
+      bytes = λ z front is. subst AreBytes (sym is.spelled) (whole_bytes z);
       example = record { value = pos 0; bytes = whole (pos 0); is = record { within = refl; spelled = refl } };
     }

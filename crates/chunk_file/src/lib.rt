@@ -3,11 +3,13 @@
 
 mod error;
 mod fault;
+mod laws;
 mod lists;
 mod reader;
 mod reading;
 mod writing;
 
 pub use error::ChunkErr;
+pub use laws::{one_spelling, reads_spellings};
 pub use reading::read;
 pub use writing::write;
