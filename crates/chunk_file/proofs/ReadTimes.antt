@@ -1,9 +1,9 @@
 -- Items that are read one after another, and what a fault in one of them is to the whole.
-use Rattle.std.proofs.Common.{◌≡◌, ℕ, zero, suc, ◌+◌, ◌-◌, ◌<◌, ◌≤◌, List, [], ◌∷◌, ◌++◌, length, refl, sym, ◌∙◌, ap, subst, arith, append_assoc}
+use Rattle.std.proofs.Common.{◌≡◌, ℕ, suc, ◌+◌, ◌-◌, ◌<◌, ◌≤◌, List, [], ◌∷◌, ◌++◌, refl, sym, ◌∙◌, ap, subst, arith, append_assoc}
 use Rattle.std.proofs.lemmas.List.{append-nil}
 use Rattle.chunk_file.specs.declared.fault.Fault.{Fault}
 use Rattle.chunk_file.specs.declared.fault.Fault.TheVariants as faults
-use Rattle.chunk_file.specs.Answers.{Fails, IsWrongAt}
+use Rattle.chunk_file.specs.Answers.{Fails}
 use Rattle.chunk_file.specs.Reading.{Found, Read, Ends, Wrong, behind, read_number, read_times, read_counted}
 
 -- ---- faults
