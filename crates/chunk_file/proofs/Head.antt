@@ -32,14 +32,16 @@ next_byte bytes at b read h within is =
     read.so_far ∙ ap (λ ms. read_magic bytes ms (drop at bytes)) (wanted at h)
     ∙ ap (λ bs. read_magic bytes (get_or magic at 0 ∷ drop (suc at) magic) bs) (drop-cons bytes at 0 within ∙ ap (λ x. x ∷ drop (suc at) bytes) is)
 
-pub head_differs : (bytes : List ℕ) (at b : ℕ) → HeadRead bytes at → at < 4 → at < length bytes → get_or bytes at 0 ≡ b → b ≢ get_or magic at 0 → read_file bytes ≡ BadMagic at
+pub head_differs : (bytes : List ℕ) (at b : ℕ) → HeadRead bytes at → at < 4 → at < length bytes → get_or bytes at 0 ≡ b → b ≢ get_or magic at 0
+    → read_file bytes ≡ BadMagic at
 head_differs bytes at b read h within is differs =
     let left = length-drop (suc at) bytes in
     next_byte bytes at b read h within is
     ∙ ap (λ t. magic_if t bytes (drop (suc at) magic) (drop (suc at) bytes) b) (ne_eqb (get_or magic at 0) b (λ e. differs (sym e)))
     ∙ ap BadMagic (omega arith)
 
-pub head_more : (bytes : List ℕ) (at b : ℕ) → HeadRead bytes at → at < 4 → at < length bytes → get_or bytes at 0 ≡ b → b ≡ get_or magic at 0 → HeadRead bytes (at + 1)
+pub head_more : (bytes : List ℕ) (at b : ℕ) → HeadRead bytes at → at < 4 → at < length bytes → get_or bytes at 0 ≡ b → b ≡ get_or magic at 0
+    → HeadRead bytes (at + 1)
 head_more bytes at b read h within is e =
     let next : suc at ≡ at + 1 = omega arith in
     record {

@@ -33,12 +33,14 @@ pub items_start : {A : Type 0} (read : List ℕ → Found A) (start : List ℕ) 
 items_start read start =
     record { so_far = λ n. ap (λ k. read_times read k start) (omega arith) ∙ joined_none (read_times read n start) }
 
-joined_more : {A : Type 0} (done : List A) (a : A) (f : Found (List A)) → joined done (behind f (λ as' rest. Read (a ∷ as') rest)) ≡ joined (done ++ a ∷ []) f
+joined_more : {A : Type 0} (done : List A) (a : A) (f : Found (List A))
+    → joined done (behind f (λ as' rest. Read (a ∷ as') rest)) ≡ joined (done ++ a ∷ []) f
 joined_more done a (Read as' rest) = ap (λ l. Read l rest) (sym (append_assoc done (a ∷ []) as'))
 joined_more done a Ends = refl
 joined_more done a (Wrong from) = refl
 
-pub items_more : {A : Type 0} (read : List ℕ → Found A) (start : List ℕ) (i : ℕ) (done after : List A) (left rest : List ℕ) (a : A) → ReadSoFar read start i done left → read left ≡ Read a rest → after ≡ done ++ a ∷ [] → ReadSoFar read start (i + 1) after rest
+pub items_more : {A : Type 0} (read : List ℕ → Found A) (start : List ℕ) (i : ℕ) (done after : List A) (left rest : List ℕ) (a : A)
+    → ReadSoFar read start i done left → read left ≡ Read a rest → after ≡ done ++ a ∷ [] → ReadSoFar read start (i + 1) after rest
 items_more read start i done after left rest a so_far found e =
     subst (λ d. ReadSoFar read start (i + 1) d rest) (sym e)
     (record {
