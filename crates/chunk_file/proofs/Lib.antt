@@ -5,7 +5,11 @@ mod Examples
 mod Fields
 mod FilesCut
 mod FilesRead
+mod Head
 mod ListFields
 mod NumberFields
+mod NumberRead
+mod ReadTimes
 mod Readers
 mod WordFields
+mod Written

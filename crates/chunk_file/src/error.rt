@@ -1,8 +1,5 @@
 //! Why bytes are no chunk.
 
-use resource::OutOfMemory;
-use std::alloc::{AllocError, AllocFailed};
-
 /// Why bytes are no chunk: the first wrong field, by its place in bytes from 0.
 #[derive(Clone, Copy, PartialEq, Eq, Debug)]
 pub enum ChunkErr {
@@ -30,38 +27,5 @@ impl ChunkErr {
             ChunkErr::Trailing { .. } => Some(34),
             ChunkErr::OutOfMemory => None,
         }
-    }
-}
-
-impl From<OutOfMemory> for ChunkErr {
-    ghost use Rattle.std.specs.Prelude.{◌≡◌};
-    ghost use Rattle.chunk_file.specs.declared.error.ChunkErr.TheVariants as errors;
-
-    ghost from_gives = { λ _ e. e ≡ errors.OutOfMemory };
-
-    fn from(_: OutOfMemory) -> ChunkErr {
-        ChunkErr::OutOfMemory
-    }
-}
-
-impl From<AllocError> for ChunkErr {
-    ghost use Rattle.std.specs.Prelude.{◌≡◌};
-    ghost use Rattle.chunk_file.specs.declared.error.ChunkErr.TheVariants as errors;
-
-    ghost from_gives = { λ _ e. e ≡ errors.OutOfMemory };
-
-    fn from(_: AllocError) -> ChunkErr {
-        ChunkErr::OutOfMemory
-    }
-}
-
-impl<T: Drop> From<AllocFailed<T>> for ChunkErr {
-    ghost use Rattle.std.specs.Prelude.{◌≡◌};
-    ghost use Rattle.chunk_file.specs.declared.error.ChunkErr.TheVariants as errors;
-
-    ghost from_gives = { λ _ e. e ≡ errors.OutOfMemory };
-
-    fn from(_: AllocFailed<T>) -> ChunkErr {
-        ChunkErr::OutOfMemory
     }
 }

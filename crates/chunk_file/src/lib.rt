@@ -2,7 +2,10 @@
 #![tactic(auto)]
 
 mod error;
+mod fault;
 mod laws;
+mod lists;
+mod reader;
 mod reading;
 mod writing;
 

@@ -14,7 +14,7 @@ const LARGE: &[u8] = &[
 ];
 
 // What follows the version in a file, and why it is no chunk.
-const FAULTS: [(&[u8], ChunkErr); 12] = [
+const FAULTS: [(&[u8], ChunkErr); 21] = [
     (&[0x80, 0], ChunkErr::BadField { at: 5 }),
     (
         &[0xFF, 0xFF, 0xFF, 0xFF, 0x10],
@@ -52,6 +52,36 @@ const FAULTS: [(&[u8], ChunkErr); 12] = [
     (
         &[0xFF, 0xFF, 0xFF, 0xFF, 0x0F],
         ChunkErr::Truncated { at: 10 },
+    ),
+    (&[0, 0x80, 0], ChunkErr::BadField { at: 6 }),
+    (&[0, 1, 1, 0, 0, 1, 0x80, 0], ChunkErr::BadField { at: 11 }),
+    (
+        &[0, 1, 1, 0, 0, 1, 0, 0x80, 0],
+        ChunkErr::BadField { at: 12 },
+    ),
+    (&[0, 0, 0x80, 0], ChunkErr::BadField { at: 7 }),
+    // Seven bytes of eight: some eighth byte makes them a number in range, or none does.
+    (
+        &[0, 1, 1, 0, 0, 1, 0, 1, 3, 0, 0, 0, 0, 0, 0, 0x20],
+        ChunkErr::Truncated { at: 21 },
+    ),
+    (
+        &[0, 1, 1, 0, 0, 1, 0, 1, 3, 1, 0, 0, 0, 0, 0, 0x20],
+        ChunkErr::BadField { at: 14 },
+    ),
+    (
+        &[
+            0, 1, 1, 0, 0, 1, 0, 1, 3, 0xFF, 0xFF, 0xFF, 0xFF, 0xFF, 0xFF, 0xDF,
+        ],
+        ChunkErr::BadField { at: 14 },
+    ),
+    (
+        &[0, 1, 1, 0, 0, 1, 0, 1, 3, 0, 0, 0, 0, 0, 0, 0xE0],
+        ChunkErr::Truncated { at: 21 },
+    ),
+    (
+        &[0, 1, 1, 0, 0, 1, 0, 1, 3, 0, 0, 0, 0, 0, 0x40],
+        ChunkErr::Truncated { at: 20 },
     ),
 ];
 
