@@ -1,10 +1,9 @@
 -- A world that has gained texts.
-use Rattle.std.proofs.Common.{◌≡◌, ℕ, List, [], ◌∷◌, map, length, slice_get, Option, Some, Result, refl, sym, ◌∙◌, ap}
+use Rattle.std.proofs.Common.{◌≡◌, List, [], ◌∷◌, slice_get, Some, Result, refl, sym, ◌∙◌, ap}
 use Rattle.std.proofs.lemmas.Option.{get_or_from_slice_get, slice_get_within}
-use Rattle.std.specs.List.{AllByRecursion}
 use Rattle.byte_text.specs.declared.fixed.StrId.{StrId}
-use Rattle.luau_tables.specs.Own.{AreTexts, HasText}
-use Rattle.luau_tables.specs.Worlds.{IsWorld, Keeps, Extends, MayUseIn, store_in}
+use Rattle.luau_tables.specs.Own.{AreTexts}
+use Rattle.luau_tables.specs.Worlds.{IsWorld, Keeps, Extends, store_in}
 use Rattle.luau_tables.specs.declared.globals.LibWorld.{LibWorld}
 use Rattle.luau_tables.proofs.MoreTexts.{extends_self, more_texts, store_more}
 use Rattle.luau_tables.proofs.OwnKept.{changes_nothing}

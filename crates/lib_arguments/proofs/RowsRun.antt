@@ -17,7 +17,7 @@ use Rattle.value_model.specs.Waits as wait
 use Rattle.value_model.specs.declared.error.RunErr.{RunErr}
 use Rattle.value_model.specs.declared.value.Value.{Value}
 use Rattle.value_model.specs.declared.value.Value.TheVariants.{Nil}
-use Rattle.lib_arguments.specs.Checks.{Checks, Fails}
+use Rattle.lib_arguments.specs.Checks.{Fails}
 use Rattle.lib_arguments.specs.Rows.{Runs, Ends, Gives, LeavesStore, ending_of}
 use Rattle.lib_arguments.specs.declared.ending.Ending.{Ending}
 use Rattle.lib_arguments.specs.declared.ending.Ending.TheVariants.{OutOfMemory, RunError, Stop}
