@@ -1,5 +1,8 @@
 -- A function is one of those that are named.
-use Rattle.std.proofs.Common.{◌≡◌, refl}
+use Rattle.std.proofs.Common.{◌≡◌, ◌⊎◌, inl, inr, List, refl}
+use Rattle.luau_tables.specs.Answers.{raised_by}
+use Rattle.value_model.specs.Values as m
+use Rattle.value_model.specs.Waits.{Elsewise}
 use Rattle.value_model.specs.declared.builtin.Builtin.{Builtin}
 use Rattle.value_model.specs.declared.builtin.Builtin.TheVariants as builtin
 use Rattle.lib_math_table.specs.Builtins.{IsMath, IsPlainTable}
@@ -27,3 +30,9 @@ no_plain builtin.TableFreeze h n0 n1 n2 n3 n4 n5 n6 n7 n8 n9 = n7 refl
 no_plain builtin.TableIsfrozen h n0 n1 n2 n3 n4 n5 n6 n7 n8 n9 = n8 refl
 no_plain builtin.TableMove h n0 n1 n2 n3 n4 n5 n6 n7 n8 n9 = n9 refl
 no_plain _ h n0 n1 n2 n3 n4 n5 n6 n7 n8 n9 = h
+
+-- none of them says how a value was raised
+pub raised_elsewise : (args : List m.Value) (f : Builtin) → IsMath f ⊎ IsPlainTable f → Elsewise ≡ raised_by f args
+raised_elsewise args builtin.Error (inl is) = absurd is
+raised_elsewise args builtin.Error (inr is) = absurd is
+raised_elsewise args _ is = refl

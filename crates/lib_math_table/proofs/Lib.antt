@@ -1,5 +1,4 @@
 pub mod Changes
-pub mod Elements
 pub mod Finding
 pub mod Functions
 pub mod Giving
@@ -7,5 +6,4 @@ pub mod Inserting
 pub mod Lists
 pub mod Made
 pub mod Moved
-pub mod Protected
 pub mod Removing

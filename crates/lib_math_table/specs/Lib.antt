@@ -1,4 +1,3 @@
 pub mod Best
 pub mod Builtins
-pub mod Joined
 pub mod Targets

@@ -7,15 +7,12 @@ ghost use Rattle.value_model.specs.Parts.{meant};
 ghost use Rattle.luau_tables.specs.Answers.{Answered, raised_by};
 ghost use Rattle.luau_tables.specs.Worlds.{IsWorld, Keeps, MayUseIn, store_in};
 ghost use Rattle.lib_arguments.specs.Rows.{Runs};
-ghost use Rattle.lib_math_table.specs.Builtins.{IsMath, IsPlainTable, IsTable};
+ghost use Rattle.lib_math_table.specs.Builtins.{IsMath, IsPlainTable};
 
-use crate::cloning::clone_table;
 use crate::edits::{insert, remove};
-use crate::joining::concat;
 use crate::making::{create, pack};
 use crate::math::{absolute, best, clamp, sign, whole};
 use crate::moving::move_items;
-use crate::ordering::sort;
 use crate::search::find;
 use crate::tables::{clear, freeze, isfrozen};
 use crate::unpacking::unpack;
@@ -24,7 +21,7 @@ use luau_tables::{LibAnswer, LibWorld};
 use resource::OutOfMemory;
 use value_model::{Builtin, Value};
 
-/// Calls a function of `math` or `table`.
+/// Calls a function of `math`, or of `table` but `concat`, `clone` and `sort`, which are not built yet.
 ///
 /// The values that it gives are appended to `results`. After a run error or a stop none are, and all in the world stays. Where
 /// memory is wanted, an edit may be half done.
@@ -34,7 +31,7 @@ pub fn call(
     world: &mut LibWorld,
     results: &mut Vec<Value>,
 ) -> Result<LibAnswer, OutOfMemory>
-    requires builtin { IsMath builtin ⊎ IsTable builtin }
+    requires builtin { IsMath builtin ⊎ IsPlainTable builtin }
     requires world { IsWorld world.old }
     requires args { AllByRecursion (MayUseIn world.old) args.now }
     ensures answered { IfOk result (λ a. Answered world.old world.new results.old.items results.new.items a (raised_by builtin (map (meant world.old.names) args.now)) (lib builtin (map (meant world.old.names) args.now) (store_in world.old))) }
@@ -44,7 +41,7 @@ pub fn call(
     if is_math(builtin) {
         return answer(math(builtin, args, world, results));
     }
-    answer(table(builtin, args, world, results))
+    answer(plain_table(builtin, args, world, results))
 }
 
 // Whether a function is one of `math`.
@@ -90,27 +87,6 @@ fn math(
 }
 
 // Calls a function of `table`.
-fn table(
-    builtin: Builtin,
-    args: &[Value],
-    world: &mut LibWorld,
-    results: &mut Vec<Value>,
-) -> Result<(), Ending>
-    requires builtin { IsTable builtin }
-    requires world { IsWorld world.old }
-    requires args { AllByRecursion (MayUseIn world.old) args.now }
-    ensures runs { Runs world.old world.new results.old.items results.new.items result (lib builtin (map (meant world.old.names) args.now) (store_in world.old)) }
-    ensures keeps { Keeps world.old world.new }
-{
-    match builtin {
-        Builtin::TableConcat => concat(args, world, results),
-        Builtin::TableClone => clone_table(args, world, results),
-        Builtin::TableSort => sort(args, world, *results.allocator()),
-        _ => plain_table(builtin, args, world, results),
-    }
-}
-
-// Calls a function of `table` other than `concat`, `clone` and `sort`.
 fn plain_table(
     builtin: Builtin,
     args: &[Value],

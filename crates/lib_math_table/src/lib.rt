@@ -1,14 +1,11 @@
-//! The functions of `math` and `table`.
+//! The functions of `math`, and of `table` but `concat`, `clone` and `sort`.
 #![tactic(auto)]
 
 mod calls;
-mod cloning;
 mod edits;
-mod joining;
 mod making;
 mod math;
 mod moving;
-mod ordering;
 mod search;
 mod tables;
 mod unpacking;
