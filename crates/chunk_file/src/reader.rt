@@ -3,7 +3,7 @@
 ghost use Rattle.chunk_file.specs.Answers.{Gives};
 ghost use Rattle.chunk_file.specs.Reading as spec;
 ghost use Rattle.std.specs.Int.{w64, from_le_bytes};
-ghost use Rattle.std.specs.Prelude.{◌<◌, ◌||◌, nat_lt, ◌≡◌, List, [], ◌∷◌, ℕ, MatchOption, IsTrue, length};
+ghost use Rattle.std.specs.Prelude.{◌<◌, ◌||◌, nat_lt, ◌≡◌, [], ◌∷◌, MatchOption, length};
 
 use crate::fault::Fault;
 use byteorder::{ByteOrder, LittleEndian};
@@ -18,8 +18,7 @@ pub(crate) struct Reader<'a> {
 }
 
 impl<'a> Model for Reader<'a> {
-    ghost use Rattle.std.specs.Int.{w64, from_le_bytes};
-    ghost use Rattle.std.specs.Prelude.{◌<◌, ◌||◌, nat_lt, ℕ, List};
+    ghost use Rattle.std.specs.Prelude.{ℕ, List};
 
     ghost Value = { List ℕ };
 
