@@ -20,7 +20,13 @@ pub fn meta_names(names: &mut Interner) -> Result<MetaNames, OutOfMemory>
     let b = number_four(names, b"__lt", b"__le", b"__add", b"__sub")?;
     let c = number_four(names, b"__mul", b"__div", b"__idiv", b"__mod")?;
     let d = number_four(names, b"__pow", b"__unm", b"__concat", b"__len")?;
-    let e = number_four(names, b"__iter", b"__tostring", b"__metatable", b"__metatable")?;
+    let e = number_four(
+        names,
+        b"__iter",
+        b"__tostring",
+        b"__metatable",
+        b"__metatable",
+    )?;
     Ok(MetaNames {
         index: a.first,
         newindex: a.second,

@@ -55,11 +55,7 @@ fn whole(n: usize) -> Option<Whole>
 }
 
 /// Gives the text of some bytes.
-pub fn give_text(
-    bytes: &[u8],
-    world: &mut LibWorld,
-    results: &mut Vec<Value>,
-) -> Result<(), Ending>
+pub fn give_text(bytes: &[u8], world: &mut LibWorld, results: &mut Vec<Value>) -> Result<(), Ending>
     requires { IsWorld world.old }
     ensures runs { Runs world.old world.new results.old.items results.new.items result (model.Answers (m.Text bytes.now ∷ []) (store_in world.old)) }
     ensures keeps { Keeps world.old world.new }

@@ -2,9 +2,7 @@ ghost use Rattle.value_arena.specs.Arenas.{HasCell, HasClosure, HasTable, HasThr
 
 use std::process::Abort;
 use std::test::Fail;
-use value_arena::{
-    Arena, Thread, border_is_least, new_objects_keep, references_keep, writes_keep,
-};
+use value_arena::{Arena, Thread, border_is_least, new_objects_keep, references_keep, writes_keep};
 use value_model::{Builtin, CellId, ClosureId, CoStatus, Owner, TableId, ThreadId, Value};
 use whole_num::Whole;
 

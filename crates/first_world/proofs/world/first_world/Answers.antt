@@ -12,9 +12,9 @@ pub returns : goal.returns
 returns c =
     let texts = c.meta_names.new.names in
     let first = is_first c.new_table.new.self c.freeze.new.self c.new_table-2.new.self c.freeze-2.new.self c.in_ok-table.table c.in_ok-string_meta.string_meta
-        (c.in_ok-table.ensures.made ∙ ap (λ a. new_table a owner.Frozen) c.new-arena.ensures)
-        (c.in_ok-table.ensures.id ∙ ap (λ a. next_table a owner.Frozen) c.new-arena.ensures)
-        c.freeze.ensures c.in_ok-string_meta.ensures.made c.in_ok-string_meta.ensures.id c.freeze-2.ensures in
+    (c.in_ok-table.ensures.made ∙ ap (λ a. new_table a owner.Frozen) c.new-arena.ensures)
+    (c.in_ok-table.ensures.id ∙ ap (λ a. next_table a owner.Frozen) c.new-arena.ensures)
+    c.freeze.ensures c.in_ok-string_meta.ensures.made c.in_ok-string_meta.ensures.id c.freeze-2.ensures in
     let g : Globals = record {
       table = c.in_ok-table.table;
       string_meta = c.in_ok-string_meta.string_meta;

@@ -37,7 +37,7 @@ returns-in_default c =
     let row = library.lib c.args.builtin vs (store_in a) in
     record {
       answered = subst (λ o. IfOk c.answer.result (λ (x : LibAnswer). Answered a d rs rs' x o row)) (raised_elsewise vs c.args.builtin c.requires.builtin)
-        (subst (λ r. IfOk r (λ (x : LibAnswer). Answered a d rs rs' x Elsewise row)) (sym c.answer.ensures) (runs_answered Elsewise a d rs rs' c.run.result row c.run.ensures.runs));
+          (subst (λ r. IfOk r (λ (x : LibAnswer). Answered a d rs rs' x Elsewise row)) (sym c.answer.ensures) (runs_answered Elsewise a d rs rs' c.run.result row c.run.ensures.runs));
       err = subst (λ r. OnErr r (rs' ≡ rs)) (sym c.answer.ensures) (runs_unanswered a d rs rs' c.run.result row c.run.ensures.runs);
       keeps = c.run.ensures.keeps;
     }

@@ -64,7 +64,7 @@ returns-in_default c =
     let vs = map (meant a.names) c.args.args.now in
     record {
       runs = subst (λ row. Runs a c.change.new.world c.args.results.now.items c.change.new.results.items c.change.result row)
-        (change_row vs (store_in a) c.args.builtin c.requires.builtin c.in_default.not-StringByte c.in_default.not-StringChar c.in_default.not-StringLen c.in_default.not-StringSub c.in_default.not-StringRep c.in_default.not-StringSplit c.requires.plain)
-        c.change.ensures.runs;
+          (change_row vs (store_in a) c.args.builtin c.requires.builtin c.in_default.not-StringByte c.in_default.not-StringChar c.in_default.not-StringLen c.in_default.not-StringSub c.in_default.not-StringRep c.in_default.not-StringSplit c.requires.plain)
+          c.change.ensures.runs;
       keeps = adds_keeps a c.change.new.world c.change.ensures.adds c.requires.world;
     }
