@@ -68,9 +68,9 @@ cut_begins bytes at are (inside more some split) =
     (ap (λ x. x ++ body r.value) split ∙ append_assoc bytes more (body r.value))
 cut_begins bytes at are (later rest split e) = version_cut bytes rest at are split e
 
-truncated_begins : (bytes : List ℕ) → AreBytes bytes → read_file bytes ≡ Truncated (length bytes) → BeginsChunk bytes
+pub truncated_begins : (bytes : List ℕ) (at : ℕ) → AreBytes bytes → read_file bytes ≡ Truncated at → BeginsChunk bytes
 unfolding read_file
-truncated_begins bytes are e = cut_begins bytes (length bytes) are (magic_cut bytes magic bytes (length bytes) e)
+truncated_begins bytes at are e = cut_begins bytes at are (magic_cut bytes magic bytes at e)
 
 -- ---- bytes that begin a chunk's are cut off
 
@@ -148,12 +148,12 @@ file_short bytes b (further rest e f) =
     ap (λ bs. read_magic bytes magic bs) e ∙ magic_past bytes magic rest
     ∙ body_short bytes rest b.more b.chunk (record { sized = b.sized; counts = b.counts }) b.some f
 
-begins_truncated : (bytes : List ℕ) → BeginsChunk bytes → read_file bytes ≡ Truncated (length bytes)
+pub begins_truncated : (bytes : List ℕ) → BeginsChunk bytes → read_file bytes ≡ Truncated (length bytes)
 unfolding read_file
 begins_truncated bytes b = file_short bytes b (joined magic (body b.chunk) bytes b.more b.begins)
 
 pub beginnings : ReadsBeginnings
-beginnings bytes are = (truncated_begins bytes are, begins_truncated bytes)
+beginnings bytes are = (truncated_begins bytes (length bytes) are, begins_truncated bytes)
 
 -- ---- one chunk, and no other spelling behind it
 

@@ -11,5 +11,6 @@ mod NumberFields
 mod NumberRead
 mod ReadTimes
 mod Readers
+mod Saying
 mod WordFields
 mod Written

@@ -1,7 +1,8 @@
 -- What the functions that read answer, by what a field or a file is read as.
 use Rattle.std.specs.Prelude.{◌≡◌, ℕ, List, length, Result, Ok, Err}
-use Rattle.op_words.specs.Chunks.{chunk_of}
+use Rattle.op_words.specs.Chunks.{ChunkOf, chunk_of}
 use Rattle.op_words.specs.declared.chunk.Chunk.{Chunk}
+use Rattle.chunk_file.specs.Laws.{Spells, BeginsChunk, HasTrailing}
 use Rattle.chunk_file.specs.Reading.{Found, Read, Ends, Wrong, Answer, IsChunk, Truncated, BadMagic, BadVersion, BadField, Trailing}
 use Rattle.chunk_file.specs.declared.error.ChunkErr.{ChunkErr}
 use Rattle.chunk_file.specs.declared.error.ChunkErr.TheVariants as errors
@@ -41,3 +42,12 @@ IsFault answer errors.OutOfMemory = Unit {0}
 abbrev pub Answers : Answer → Result Chunk ChunkErr → Type 0
 Answers answer (Ok chunk) = answer ≡ IsChunk (chunk_of chunk)
 Answers answer (Err error) = IsFault answer error
+
+-- What it says of the bytes: they are the chunk's; or they begin one and end before it does; or others stand behind one; or none of
+-- these. For want of memory nothing is said.
+abbrev pub Says : List ℕ → Result Chunk ChunkErr → Type 0
+Says bytes (Ok chunk) = Spells bytes (chunk_of chunk)
+Says bytes (Err (errors.Truncated at)) = BeginsChunk bytes × (at ≡ length bytes)
+Says bytes (Err (errors.Trailing at)) = HasTrailing bytes at
+Says bytes (Err errors.OutOfMemory) = Unit {0}
+Says bytes (Err error) = ((c : ChunkOf) → Spells bytes c → ⊥) × (BeginsChunk bytes → ⊥)

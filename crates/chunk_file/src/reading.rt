@@ -1,6 +1,6 @@
 //! Bytes to chunks.
 
-ghost use Rattle.chunk_file.specs.Answers.{Answers, Fails, Gives, IsFault};
+ghost use Rattle.chunk_file.specs.Answers.{Answers, Fails, Gives, IsFault, Says};
 ghost use Rattle.chunk_file.specs.Reading as spec;
 ghost use Rattle.op_words.specs.Chunks.{ChunkOf, chunk_of};
 ghost use Rattle.std.specs.Prelude.{◌≡◌, ◌-◌, ◌≤◌, IfErr, OnOk, drop, length};
@@ -16,6 +16,15 @@ const MAGIC: [u8; 4] = [0x4C, 0x57, 0x43, 0x48];
 
 /// The chunk that the bytes spell, or the first wrong field.
 pub fn read(alloc: Global, bytes: &[u8]) -> Result<Chunk, ChunkErr>
+    // It is what the bytes are read as, field by field.
+    ensures reads { Answers (spec.read_file bytes.now) result }
+    // The bytes are the chunk's spelling; or they begin one and end before it does; or others stand behind one; or none of these.
+    ensures says { Says bytes.now result }
+{
+    read_fields(alloc, bytes)
+}
+
+fn read_fields(alloc: Global, bytes: &[u8]) -> Result<Chunk, ChunkErr>
     ensures reads { Answers (spec.read_file bytes.now) result }
 {
     check_head(bytes)?;
