@@ -24,18 +24,15 @@ says bytes (Ok chunk) are e = (spellings bytes (chunk_of chunk) are).0 e
 says bytes (Err (errors.Truncated at)) are e = (truncated_begins bytes at are e, cut_at bytes at are e)
 says bytes (Err (errors.Trailing at)) are e = (trailings bytes at are).0 e
 says bytes (Err errors.OutOfMemory) are e = tt
-says bytes (Err (errors.BadMagic at)) are e =
-    (
-      λ c s. let both : BadMagic at ≡ IsChunk c = sym e ∙ spelled_read bytes c s in absurd (cc),
-      λ b. let both : BadMagic at ≡ Truncated (length bytes) = sym e ∙ begins_truncated bytes b in absurd (cc),
-    )
-says bytes (Err (errors.BadVersion at)) are e =
-    (
-      λ c s. let both : BadVersion at ≡ IsChunk c = sym e ∙ spelled_read bytes c s in absurd (cc),
-      λ b. let both : BadVersion at ≡ Truncated (length bytes) = sym e ∙ begins_truncated bytes b in absurd (cc),
-    )
-says bytes (Err (errors.BadField at)) are e =
-    (
-      λ c s. let both : BadField at ≡ IsChunk c = sym e ∙ spelled_read bytes c s in absurd (cc),
-      λ b. let both : BadField at ≡ Truncated (length bytes) = sym e ∙ begins_truncated bytes b in absurd (cc),
-    )
+says bytes (Err (errors.BadMagic at)) are e = (
+  λ c s. let both : BadMagic at ≡ IsChunk c = sym e ∙ spelled_read bytes c s in absurd (cc),
+  λ b. let both : BadMagic at ≡ Truncated (length bytes) = sym e ∙ begins_truncated bytes b in absurd (cc),
+)
+says bytes (Err (errors.BadVersion at)) are e = (
+  λ c s. let both : BadVersion at ≡ IsChunk c = sym e ∙ spelled_read bytes c s in absurd (cc),
+  λ b. let both : BadVersion at ≡ Truncated (length bytes) = sym e ∙ begins_truncated bytes b in absurd (cc),
+)
+says bytes (Err (errors.BadField at)) are e = (
+  λ c s. let both : BadField at ≡ IsChunk c = sym e ∙ spelled_read bytes c s in absurd (cc),
+  λ b. let both : BadField at ≡ Truncated (length bytes) = sym e ∙ begins_truncated bytes b in absurd (cc),
+)

@@ -3,6 +3,7 @@
 ghost use Rattle.std.specs.Prelude.{◌≡◌, ◌+◌, ◌^◌, ◌<◌, pos, ◌∷◌, ◌++◌, [], length, OnOk, IfOk};
 ghost use Rattle.code_link.specs.Labels.{word_count};
 ghost use Rattle.emit_stat.specs.Emitted.{Appends};
+ghost use Rattle.emit_stat.specs.Fits.{AllFit};
 
 use code_link::Item;
 use machine_meaning::Constant;
@@ -20,6 +21,7 @@ pub struct Draft {
 
 /// One more item.
 pub fn put(code: &mut Draft, item: Item) -> Result<(), OutOfMemory>
+    requires { AllFit (item ∷ []) }
     ensures item { OnOk result (Appends code.old code.new (word_count (item ∷ [])) (item ∷ [])) }
     ensures constants { code.new.constants ≡ code.old.constants }
     ensures labels { code.new.labels ≡ code.old.labels }
