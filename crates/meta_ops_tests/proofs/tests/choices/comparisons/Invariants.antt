@@ -1,0 +1,5 @@
+use Rattle.meta_ops_tests.specs.Ready.{IsReady}
+use Rattle.meta_ops_tests.proofs.tests.choices.comparisons.Given as goal
+
+abbrev pub invariant-loop-row : goal.invariant-loop-row
+invariant-loop-row g l = IsReady l.world
