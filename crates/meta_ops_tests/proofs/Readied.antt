@@ -20,7 +20,7 @@ use Rattle.value_arena.proofs.Owning.{owned_with_table, owned_new_table}
 use Rattle.luau_tables.specs.Own.{AreTexts, longest_text}
 use Rattle.luau_tables.specs.Rules as rule
 use Rattle.meta_ops_tests.specs.Ready.{IsReady, MayStore, IsNobodys}
-use Rattle.meta_ops_tests.specs.declared.tests.world.World.{World}
+use Rattle.meta_ops_tests.specs.declared.world.World.{World}
 
 -- other texts
 pub with_names : (w : World) (names : List Bytes) → IsReady w → (AreTexts w.names → AreTexts names) → IsReady (record w { names = names })

@@ -7,7 +7,7 @@ use Rattle.value_model.specs.declared.value.Value.{Value}
 use Rattle.value_arena.specs.Arenas.{ArenaView, HasTable, objects_of}
 use Rattle.value_arena.specs.Owning.{IsOwned, MayHold}
 use Rattle.luau_tables.specs.Own.{AreTexts}
-use Rattle.meta_ops_tests.specs.declared.tests.world.World.{World}
+use Rattle.meta_ops_tests.specs.declared.world.World.{World}
 
 -- There are so many of nobody's tables, of which the first one is the metatable of strings, each object refers to what is there,
 -- and texts are short.

@@ -3,7 +3,7 @@
 ghost use Rattle.std.specs.Prelude.{◌≡◌, ◌<◌, IfOk};
 ghost use Rattle.meta_ops_tests.specs.Ready.{IsReady};
 
-use crate::tests::world::{Expected, Operand, World};
+use crate::world::{Expected, Operand, World};
 use luau_tables::get;
 use meta_ops::{index, newindex};
 use resource::Steps;

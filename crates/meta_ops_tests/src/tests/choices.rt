@@ -3,7 +3,7 @@
 ghost use Rattle.std.specs.Prelude.{IfOk};
 ghost use Rattle.meta_ops_tests.specs.Ready.{IsReady};
 
-use crate::tests::world::{Expected, Operand, World};
+use crate::world::{Expected, Operand, World};
 use lib_arguments::text_value;
 use meta_ops::{ArithOp, CompareOp, Outcome, arith, call_target, compare, concat, length};
 use std::process::Abort;

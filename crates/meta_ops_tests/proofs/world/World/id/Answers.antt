@@ -1,6 +1,6 @@
 use Rattle.std.proofs.Common.{refl}
 use Rattle.meta_ops_tests.proofs.Readied.{table_there, table_held}
-use Rattle.meta_ops_tests.proofs.tests.world.World.id.Goals as goal
+use Rattle.meta_ops_tests.proofs.world.World.id.Goals as goal
 
 pub returns-then-number-self-clause-there : goal.returns-then-number-self-clause-there
 returns-then-number-self-clause-there c = table_there c.args.self.now c.args.number c.requires c.if-number-self.true

@@ -4,7 +4,7 @@ use Rattle.value_model.specs.declared.ids.Owner.TheVariants.{Frozen}
 use Rattle.value_arena.specs.Arenas.{new_table, next_table}
 use Rattle.luau_tables.specs.Own.{AreTexts}
 use Rattle.meta_ops_tests.proofs.Readied.{fixed_are_texts, new_ready}
-use Rattle.meta_ops_tests.proofs.tests.world.World.new.Goals as goal
+use Rattle.meta_ops_tests.proofs.world.World.new.Goals as goal
 
 pub returns : goal.returns
 returns g c =

@@ -1,5 +1,5 @@
 use Rattle.meta_ops_tests.proofs.Readied.{table_more, table_ready}
-use Rattle.meta_ops_tests.proofs.tests.world.World.table.Goals as goal
+use Rattle.meta_ops_tests.proofs.world.World.table.Goals as goal
 
 pub returns-then-id-lt4294967295 : goal.returns-then-id-lt4294967295
 returns-then-id-lt4294967295 c =

@@ -1,7 +1,7 @@
 use Rattle.std.proofs.Common.{subst}
 use Rattle.value_arena.specs.Arenas.{ArenaView}
 use Rattle.meta_ops_tests.specs.Ready.{MayStore}
-use Rattle.meta_ops_tests.proofs.tests.world.World.pair.Goals as goal
+use Rattle.meta_ops_tests.proofs.world.World.pair.Goals as goal
 
 pub returns-clause-first : goal.returns-clause-first
 returns-clause-first c = c.known.ensures.there c.args.self.now.arena c.value-first.ensures.there

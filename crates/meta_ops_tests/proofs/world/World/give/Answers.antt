@@ -1,5 +1,5 @@
 use Rattle.meta_ops_tests.proofs.Readied.{meta_ready}
-use Rattle.meta_ops_tests.proofs.tests.world.World.give.Goals as goal
+use Rattle.meta_ops_tests.proofs.world.World.give.Goals as goal
 
 pub returns : goal.returns
 returns c =
