@@ -247,16 +247,53 @@ fn is_table(builtin: Builtin) -> bool
     )
 }
 
+// Appends what a row's call gives.
+fn row_into(
+    rt: &impl AllocGlobal,
+    row: &(Builtin, &[Given], &str),
+    world: &mut LibWorld,
+    own: TableId,
+    out: &mut Vec<u8>,
+) -> Result<(), Fail>
+    requires builtin { IsMath row.now.0 ⊎ IsPlainTable row.now.0 }
+    requires world { IsWorld world.old }
+    requires own { MayUseIn world.old (Table own) }
+    ensures { Keeps world.old world.new }
+{
+    let args = values_of(rt, row.1, world, own)?;
+    called(rt, row.0, args.as_slice(), world, out)?;
+    Ok(())
+}
+
+// Appends the elements of the table that a row's call gives.
+fn made_into(
+    rt: &impl AllocGlobal,
+    row: &(Builtin, &[Given], &str),
+    world: &mut LibWorld,
+    own: TableId,
+    out: &mut Vec<u8>,
+) -> Result<(), Fail>
+    requires builtin { IsPlainTable row.now.0 }
+    requires world { IsWorld world.old }
+    requires own { MayUseIn world.old (Table own) }
+    ensures { Keeps world.old world.new }
+{
+    let mut unshown = Vec::new(rt.alloc());
+    let args = values_of(rt, row.1, world, own)?;
+    let made = called(rt, row.0, args.as_slice(), world, &mut unshown)?;
+    called(rt, Builtin::TableUnpack, made.as_slice(), world, out)?;
+    Ok(())
+}
+
 #[test]
 fn math(rt: HostRuntime) -> Result<(), Fail> {
     let mut world = first_world(rt.alloc())?;
     let own = add_table(&mut world)?;
-    for (builtin, given, shown) in &MATH {
+    for row in &MATH {
         let mut text = Vec::new(rt.alloc());
-        assert!(rt; is_math(*builtin));
-        let args = values_of(&rt, given, &mut world, own)?;
-        called(&rt, *builtin, args.as_slice(), &mut world, &mut text)?;
-        assert_eq!(rt; text.as_slice(), shown.as_bytes());
+        assert!(rt; is_math(row.0));
+        row_into(&rt, row, &mut world, own, &mut text)?;
+        assert_eq!(rt; text.as_slice(), row.2.as_bytes());
     }
     Ok(())
 }
@@ -265,12 +302,11 @@ fn math(rt: HostRuntime) -> Result<(), Fail> {
 fn table(rt: HostRuntime) -> Result<(), Fail> {
     let mut world = first_world(rt.alloc())?;
     let own = add_table(&mut world)?;
-    for (builtin, given, shown) in &TABLE {
+    for row in &TABLE {
         let mut text = Vec::new(rt.alloc());
-        assert!(rt; is_table(*builtin));
-        let args = values_of(&rt, given, &mut world, own)?;
-        called(&rt, *builtin, args.as_slice(), &mut world, &mut text)?;
-        assert_eq!(rt; text.as_slice(), shown.as_bytes());
+        assert!(rt; is_table(row.0));
+        row_into(&rt, row, &mut world, own, &mut text)?;
+        assert_eq!(rt; text.as_slice(), row.2.as_bytes());
     }
     Ok(())
 }
@@ -279,20 +315,11 @@ fn table(rt: HostRuntime) -> Result<(), Fail> {
 fn made(rt: HostRuntime) -> Result<(), Fail> {
     let mut world = first_world(rt.alloc())?;
     let own = add_table(&mut world)?;
-    for (builtin, given, shown) in &MADE {
+    for row in &MADE {
         let mut text = Vec::new(rt.alloc());
-        assert!(rt; is_table(*builtin));
-        let args = values_of(&rt, given, &mut world, own)?;
-        let made = called(&rt, *builtin, args.as_slice(), &mut world, &mut text)?;
-        text.clear();
-        called(
-            &rt,
-            Builtin::TableUnpack,
-            made.as_slice(),
-            &mut world,
-            &mut text,
-        )?;
-        assert_eq!(rt; text.as_slice(), shown.as_bytes());
+        assert!(rt; is_table(row.0));
+        made_into(&rt, row, &mut world, own, &mut text)?;
+        assert_eq!(rt; text.as_slice(), row.2.as_bytes());
     }
     Ok(())
 }
