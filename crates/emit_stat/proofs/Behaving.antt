@@ -1,6 +1,9 @@
 -- The linked code of a script does what the script does.
-use Rattle.std.proofs.Common.{ℕ, List, [], ◌∷◌, ◌++◌, length, refl}
+use Rattle.std.proofs.Common.{◌≡◌, ℕ, List, [], ◌∷◌, ◌++◌, length, None, refl}
+use Rattle.syntax_tree.specs.declared.bindings.Bindings.{Bindings}
+use Rattle.syntax_tree.specs.declared.tree.FuncBody.{out-FuncBody}
 use Rattle.syntax_tree.specs.declared.tree.Stat.{Stat}
+use Rattle.syntax_tree.specs.declared.tree.Tree.{Tree}
 use Rattle.op_words.specs.declared.insn.Insn.TheVariants as insn
 use Rattle.code_link.specs.declared.item.Item.{Item}
 use Rattle.code_link.specs.declared.item.Item.TheVariants as item
@@ -13,16 +16,19 @@ use Rattle.source_meaning.specs.Runs as source
 use Rattle.machine_meaning.specs.declared.code.Constant.{Constant}
 use Rattle.machine_meaning.specs.States as machine
 use Rattle.emit_stat.specs.Fits.{AllFit}
-use Rattle.emit_stat.specs.Form.{IsBlock}
+use Rattle.emit_stat.specs.Standing.{IsBound}
+use Rattle.emit_stat.specs.Unbuilt.{first_unbuilt}
 use Rattle.emit_stat.specs.Code.{IsScriptCode}
 use Rattle.emit_stat.specs.Correct.{Behaves}
 use Rattle.emit_stat.proofs.Locals.{Locals}
 use Rattle.emit_stat.proofs.Reading.{reads, split}
 use Rattle.emit_stat.proofs.Following.{Alike, by_machine, both_end, statements_same}
+use Rattle.emit_stat.proofs.BuiltBlocks.{has_report}
 use Rattle.emit_stat.proofs.NeverStuck.{never_stuck}
 
 -- from their starts both come to one report
-alike : (ks : List Constant) (stats : List Stat) (items : List Item) (words : List ℕ) → IsScriptCode ks stats items → AllFit items → IsLinked items words → (n : ℕ) → Alike words ks (place_in items 0) n (source.start stats) machine.start
+alike : (ks : List Constant) (stats : List Stat) (items : List Item) (words : List ℕ) → IsScriptCode ks stats items → AllFit items →
+    IsLinked items words → (n : ℕ) → Alike words ks (place_in items 0) n (source.start stats) machine.start
 alike ks stats _ words (IsScriptCode.script body code) fit linked n =
     let items = item.Insn (insn.PrepVarargs 0) ∷ (body ++ item.Insn (insn.Return 0 1) ∷ []) in
     let place = place_in items 0 in
@@ -33,10 +39,14 @@ alike ks stats _ words (IsScriptCode.script body code) fit linked n =
     (λ left le names env cells regs ls since. both_end words ks place left Done [] env cells p.0 _ regs _ Ended refl p.2.0 refl)
     [] machine.start.registers Locals.none)
 
-pub behaves : (ks : List Constant) (stats : List Stat) (items : List Item) (words : List ℕ) → IsBlock [] stats → IsScriptCode ks stats items → AllFit items → IsLinked items words → Behaves stats words ks
-behaves ks stats items words form code fit linked = record {
-  to_code = λ n r. together.to_other _ _ _ _ _ _ _ _ _ n (source.start stats) machine.start (alike ks stats items words code fit linked n) r;
-  to_source = λ n q. together.to_one _ _ _ _ _ _ _ _ _ n (source.start stats) machine.start (alike ks stats items words code fit linked n) q;
-  ends = λ n. together.has_report _ _ _ _ _ _ _ _ _ n (source.start stats) machine.start (alike ks stats items words code fit linked n);
-  sound = never_stuck stats form;
-}
+pub behaves : (tree : Tree) (b : Bindings) (ks : List Constant) (items : List Item) (words : List ℕ) → IsBound tree b →
+    first_unbuilt b (out-FuncBody tree.main).body ≡ None → IsScriptCode ks (out-FuncBody tree.main).body items → AllFit items →
+    IsLinked items words → Behaves (out-FuncBody tree.main).body words ks
+behaves tree b ks items words bound_to built code fit linked =
+    let stats = (out-FuncBody tree.main).body in
+    record {
+      to_code = λ n r. together.to_other _ _ _ _ _ _ _ _ _ n (source.start stats) machine.start (alike ks stats items words code fit linked n) r;
+      to_source = λ n q. together.to_one _ _ _ _ _ _ _ _ _ n (source.start stats) machine.start (alike ks stats items words code fit linked n) q;
+      ends = λ n. together.has_report _ _ _ _ _ _ _ _ _ n (source.start stats) machine.start (alike ks stats items words code fit linked n);
+      sound = λ n. never_stuck stats n (has_report tree b bound_to built n);
+    }

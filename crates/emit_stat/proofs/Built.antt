@@ -1,14 +1,22 @@
 -- What is not built in a node, by what is not built in its parts.
-use Rattle.std.proofs.Common.{◌≡◌, ℕ, ◌<◌, ◌≤◌, List, [], ◌∷◌, map, length, get_or, Option, Some, None, refl, sym, ap, ◌∙◌, arith}
-use Rattle.byte_text.specs.declared.fixed.StrId.{StrId}
+use Rattle.std.proofs.Common.{◌≡◌, ℕ, ◌<◌, ◌≤◌, List, [], ◌∷◌, map, length, get_or, Bool, true, false, Option, Some, None, refl, sym, ap, ◌∙◌, arith}
 use Rattle.syntax_tree.specs.declared.bindings.Bindings.{Bindings}
 use Rattle.syntax_tree.specs.declared.tree.Arm.{Arm, out-Arm}
 use Rattle.syntax_tree.specs.declared.tree.Expr.{Expr}
 use Rattle.syntax_tree.specs.declared.tree.Stat.{Stat}
 use Rattle.syntax_tree.specs.declared.tree.StatKind as stat
 use Rattle.syntax_tree.specs.declared.tree.StatKind.{out-StatKind}
-use Rattle.emit_stat.specs.Unbuilt.{or_else, block, steps, uses_of, unbuilt_in_stat, unbuilt_in_arm, first_unbuilt}
+use Rattle.emit_stat.specs.Unbuilt.{Found, or_else, provided, block, steps, uses_of, unbuilt_in_stat, unbuilt_in_arm, first_unbuilt}
 use Rattle.emit_stat.proofs.NodeLevels.{of_branch, of_loop, of_arm}
+
+-- ---- where nothing is found
+pub or_else_none : (f g : Found) → or_else f g ≡ None → (f ≡ None) × (g ≡ None)
+or_else_none None g h = (refl, h)
+or_else_none (Some at) g h = cc
+
+pub provided_none : (holds : Bool) (at : ℕ) (f : Found) → provided holds at f ≡ None → (holds ≡ true) × (f ≡ None)
+provided_none true at f h = (refl, h)
+provided_none false at f h = cc
 
 module _ (b : Bindings) where
   -- ---- blocks
@@ -51,22 +59,13 @@ module _ (b : Bindings) where
       x).condition) e) ∙ sym (unbuilt_of_loop s cond body k)
 
 -- ---- what a statement is, by its lists as they are seen
-pub as_local : (s : Stat) (xs ys : List StrId) (es fs : List Expr) → s.kind ≡ stat.Local xs es → ys ≡ xs → fs ≡ es → s.kind ≡ stat.Local ys fs
-as_local s xs ys es fs k n v = k ∙ ap (λ (l : List StrId). stat.Local l es) (sym n) ∙ ap (λ (l : List Expr). stat.Local ys l) (sym v)
-
-pub as_assignment : (s : Stat) (ts us es fs : List Expr) → s.kind ≡ stat.Assign ts es → us ≡ ts → fs ≡ es → s.kind ≡ stat.Assign us fs
-as_assignment s ts us es fs k n v = k ∙ ap (λ (l : List Expr). stat.Assign l es) (sym n) ∙ ap (λ (l : List Expr). stat.Assign us l) (sym v)
-
-pub as_branch : (s : Stat) (arms seen : List Arm) (arm : Arm) (other same : Option (List Stat)) → s.kind ≡ stat.If arms other → seen ≡ arms → seen ≡ arm ∷ [] → other ≡ same → s.kind ≡ stat.If (arm ∷ []) same
-as_branch s arms seen arm other same k n one o = k ∙ ap (λ (l : List Arm). stat.If l other) (sym n ∙ one) ∙ ap (λ (x : Option (List Stat)). stat.If (arm ∷ []) x) o
+pub as_branch : (s : Stat) (arms seen : List Arm) (arm : Arm) (other same : Option (List Stat)) → s.kind ≡ stat.If arms other →
+    seen ≡ arms → seen ≡ arm ∷ [] → other ≡ same → s.kind ≡ stat.If (arm ∷ []) same
+as_branch s arms seen arm other same k n one o = k ∙ ap (λ (l : List Arm). stat.If l other) (sym n ∙ one) ∙ ap
+    (λ (x : Option (List Stat)). stat.If (arm ∷ []) x) o
 
 -- ---- lists of one
 pub only : {X : Type 0} → (xs : List X) (x : X) → 1 ≤ length xs → length xs < 2 → x ≡ get_or xs 0 x → xs ≡ x ∷ []
 only [] x least most h = absurd (omega arith)
 only (y ∷ []) x least most h = cc
 only (y ∷ z ∷ xs) x least most h = absurd (omega arith)
-
-pub one : {X : Type 0} → (xs : List X) → 1 ≤ length xs → length xs < 2 → (x : X) × (xs ≡ x ∷ [])
-one [] least most = absurd (omega arith)
-one (y ∷ []) least most = (y, refl)
-one (y ∷ z ∷ xs) least most = absurd (omega arith)

@@ -37,17 +37,21 @@ use Rattle.machine_meaning.specs.declared.code.Constant.{Constant}
 use Rattle.machine_meaning.specs.States.{Registers, put}
 use Rattle.machine_meaning.specs.States as states
 use Rattle.machine_meaning.specs.Steps as machine
-use Rattle.emit_stat.specs.Form.{register_of, operation, unless, names_beyond, names_after}
+use Rattle.emit_stat.specs.Names.{register_of, names_beyond, names_after}
+use Rattle.emit_stat.specs.Operations.{operation, unless}
 use Rattle.emit_stat.specs.Code.{IsNumberCode, IsValueCode, IsTestCode, IsPrintCode, IsStatementCode, IsBlockCode, branch, branches, loop}
+use Rattle.emit_stat.proofs.NewestNames.{as_newest}
 use Rattle.emit_stat.proofs.Locals.{Locals, Temporaries, Fits, Since, read, read_none, locals_declare, locals_assign, locals_before, since_on, fits_push, fits_pop, fits_newest}
 use Rattle.emit_stat.proofs.Reading.{Reads, split, split_insns, on, ahead, same_place}
 
 -- ---- one level of a node
 
-pub opened : (e : Expr) (l : ExprLevel) (k : List Frame) (env : Environment) (cells : List Value) → out-ExprKind e.kind ≡ l → source.row (Evaluate e) k env cells ≡ source.begin_expr l k env cells
+pub opened : (e : Expr) (l : ExprLevel) (k : List Frame) (env : Environment) (cells : List Value) → out-ExprKind e.kind ≡ l →
+    source.row (Evaluate e) k env cells ≡ source.begin_expr l k env cells
 opened e l k env cells h = ap (λ x. source.begin_expr x k env cells) h
 
-pub begun : (s : Stat) (l : StatLevel) (k : List Frame) (env : Environment) (cells : List Value) → out-StatKind s.kind ≡ l → source.row (Execute s) k env cells ≡ source.begin_stat l k env cells
+pub begun : (s : Stat) (l : StatLevel) (k : List Frame) (env : Environment) (cells : List Value) → out-StatKind s.kind ≡ l →
+    source.row (Execute s) k env cells ≡ source.begin_stat l k env cells
 begun s l k env cells h = ap (λ x. source.begin_stat x k env cells) h
 
 -- ---- comparisons
@@ -77,7 +81,8 @@ source_compares op.Gt l r i v w h = refl
 source_compares op.Ge l r i v w h = refl
 source_compares _ l r i v w h = cc
 
-machine_compares : (ks : List Constant) (op : BinOp) (l r : ℕ) (i : Instruction) (by : ℤ) (pc next : ℕ) (regs : Registers) → unless op l r ≡ Some i → machine.row ks (jumping i by) pc next regs ≡ machine.branch (option_map not (holds op (regs l) (regs r))) by pc next regs
+machine_compares : (ks : List Constant) (op : BinOp) (l r : ℕ) (i : Instruction) (by : ℤ) (pc next : ℕ) (regs : Registers) →
+    unless op l r ≡ Some i → machine.row ks (jumping i by) pc next regs ≡ machine.branch (option_map not (holds op (regs l) (regs r))) by pc next regs
 unfolding holds
 machine_compares ks op.Eq l r i by pc next regs h =
     ap (λ x. machine.row ks (jumping x by) pc next regs) (sym (same_Some _ i h))
@@ -95,7 +100,8 @@ machine_compares ks _ l r i by pc next regs h = cc
 
 -- ---- operations
 
-machine_operates : (ks : List Constant) (op : BinOp) (to l r : ℕ) (i : Instruction) (pc next : ℕ) (regs : Registers) → operation op to l r ≡ Some i → machine.row ks i pc next regs ≡ machine.give (source.result_of op (regs l) (regs r)) to next regs
+machine_operates : (ks : List Constant) (op : BinOp) (to l r : ℕ) (i : Instruction) (pc next : ℕ) (regs : Registers) →
+    operation op to l r ≡ Some i → machine.row ks i pc next regs ≡ machine.give (source.result_of op (regs l) (regs r)) to next regs
 unfolding source.result_of
 machine_operates ks op.Add to l r i pc next regs h = ap (λ x. machine.row ks x pc next regs) (sym (same_Some _ i h))
 machine_operates ks op.Sub to l r i pc next regs h = ap (λ x. machine.row ks x pc next regs) (sym (same_Some _ i h))
@@ -121,17 +127,24 @@ module _ (words : List ℕ) (ks : List Constant) (place : ℕ → Option ℕ) wh
   Same left f k env cells pc regs =
       Alike left (record { focus = f; frames = k; env = env; cells = cells }) (record { place = pc; registers = regs })
 
-  pub by_source : (left : ℕ) (f f' : Focus) (k k' : List Frame) (env env' : Environment) (cells cells' : List Value) (pc : ℕ) (regs : Registers) → source.row f k env cells ≡ source.now f' k' env' cells' → Same left f' k' env' cells' pc regs → Same left f k env cells pc regs
+  pub by_source : (left : ℕ) (f f' : Focus) (k k' : List Frame) (env env' : Environment) (cells cells' : List Value) (pc : ℕ)
+      (regs : Registers) → source.row f k env cells ≡ source.now f' k' env' cells' → Same left f' k' env' cells' pc regs →
+      Same left f k env cells pc regs
   by_source left f f' k k' env env' cells cells' pc regs e a = together.source_goes _ _ _ _ _ _ _ _ _ e a
 
-  pub by_machine : (left : ℕ) (f : Focus) (k : List Frame) (env : Environment) (cells : List Value) (pc next pc' : ℕ) (regs regs' : Registers) (i : Instruction) → insn_at words pc ≡ Some (i, next) → machine.row ks i pc next regs ≡ machine.at pc' regs' → Same left f k env cells pc' regs' → Same left f k env cells pc regs
+  pub by_machine : (left : ℕ) (f : Focus) (k : List Frame) (env : Environment) (cells : List Value) (pc next pc' : ℕ)
+      (regs regs' : Registers) (i : Instruction) → insn_at words pc ≡ Some (i, next) →
+      machine.row ks i pc next regs ≡ machine.at pc' regs' → Same left f k env cells pc' regs' → Same left f k env cells pc regs
   by_machine left f k env cells pc next pc' regs regs' i h e a =
       together.target_goes _ _ _ _ _ _ _ _ _ (ap (λ o. machine.act ks o pc regs) h ∙ e) a
 
-  pub at_place : (left : ℕ) (f : Focus) (k : List Frame) (env : Environment) (cells : List Value) (pc pc' : ℕ) (regs : Registers) → pc ≡ pc' → Same left f k env cells pc' regs → Same left f k env cells pc regs
+  pub at_place : (left : ℕ) (f : Focus) (k : List Frame) (env : Environment) (cells : List Value) (pc pc' : ℕ) (regs : Registers) →
+      pc ≡ pc' → Same left f k env cells pc' regs → Same left f k env cells pc regs
   at_place left f k env cells pc pc' regs e a = subst (λ p. Same left f k env cells p regs) (sym e) a
 
-  pub both_end : (left : ℕ) (f : Focus) (k : List Frame) (env : Environment) (cells : List Value) (pc next : ℕ) (regs : Registers) (i : Instruction) (end : End) → source.row f k env cells ≡ Ends [] end → insn_at words pc ≡ Some (i, next) → machine.row ks i pc next regs ≡ Ends [] end → Same left f k env cells pc regs
+  pub both_end : (left : ℕ) (f : Focus) (k : List Frame) (env : Environment) (cells : List Value) (pc next : ℕ) (regs : Registers)
+      (i : Instruction) (end : End) → source.row f k env cells ≡ Ends [] end → insn_at words pc ≡ Some (i, next) →
+      machine.row ks i pc next regs ≡ Ends [] end → Same left f k env cells pc regs
   both_end left f k env cells pc next regs i end e h d =
       together.both_end _ _ _ _ _ _ _ _ _ e (ap (λ o. machine.act ks o pc regs) h ∙ d) refl
 
@@ -140,9 +153,13 @@ module _ (words : List ℕ) (ks : List Constant) (place : ℕ → Option ℕ) wh
   -- what is to be shown of the rest, where a value is given
   abbrev pub WithValue : ℕ → Environment → List StrId → List Value → List Frame → ℕ → Type 0
   WithValue left env names temps k to =
-      (left' : ℕ) → left' ≤ left → (v : Value) (cells : List Value) (regs : Registers) → Fits cells regs env names (v ∷ temps) → Same left' (Give v) k env cells to regs
+      (left' : ℕ) → left' ≤ left → (v : Value) (cells : List Value) (regs : Registers) → Fits cells regs env names (v ∷ temps) →
+      Same left' (Give v) k env cells to regs
 
-  number_same : (names : List StrId) (to : ℕ) (v : ℤ) (is : List Instruction) → IsNumberCode ks to v is → (temps : List Value) → length names + length temps ≡ to → (from next : ℕ) → Reads words place from (map item.Insn is) next → (left : ℕ) (k : List Frame) (env : Environment) → WithValue left env names temps k next → (cells : List Value) (regs : Registers) → Fits cells regs env names temps → Same left (Give (value.Number v)) k env cells from regs
+  number_same : (names : List StrId) (to : ℕ) (v : ℤ) (is : List Instruction) → IsNumberCode ks to v is → (temps : List Value) →
+      length names + length temps ≡ to → (from next : ℕ) → Reads words place from (map item.Insn is) next →
+      (left : ℕ) (k : List Frame) (env : Environment) → WithValue left env names temps k next → (cells : List Value) (regs : Registers) →
+      Fits cells regs env names temps → Same left (Give (value.Number v)) k env cells from regs
   number_same names to v _ IsNumberCode.small temps at from next r left k env go cells regs fits =
       by_machine left _ k env cells from _ _ regs _ _ r.0 refl
       (at_place left _ k env cells _ next _ r.1
@@ -153,7 +170,11 @@ module _ (words : List ℕ) (ks : List Constant) (place : ℕ → Option ℕ) wh
       (go left (omega arith) _ cells _ (fits_push cells regs env names temps to _ at fits)))
 
   -- an operation on the two newest temporaries
-  operate : (o : Outcome) (op : BinOp) (names : List StrId) (to : ℕ) (i : Instruction) → operation op to to (to + 1) ≡ Some i → (temps : List Value) → length names + length temps ≡ to → (from next : ℕ) → insn_at words from ≡ Some (i, next) → (left : ℕ) (k : List Frame) (env : Environment) → WithValue left env names temps k next → (v w : Value) (cells : List Value) (regs : Registers) → Fits cells regs env names (w ∷ v ∷ temps) → source.result_of op v w ≡ o → machine.row ks i from next regs ≡ machine.give o to next regs → Same left (Give w) (RightOperand op v ∷ k) env cells from regs
+  operate : (o : Outcome) (op : BinOp) (names : List StrId) (to : ℕ) (i : Instruction) → operation op to to (to + 1) ≡ Some i →
+      (temps : List Value) → length names + length temps ≡ to → (from next : ℕ) → insn_at words from ≡ Some (i, next) →
+      (left : ℕ) (k : List Frame) (env : Environment) → WithValue left env names temps k next →
+      (v w : Value) (cells : List Value) (regs : Registers) → Fits cells regs env names (w ∷ v ∷ temps) → source.result_of op v w ≡ o →
+      machine.row ks i from next regs ≡ machine.give o to next regs → Same left (Give w) (RightOperand op v ∷ k) env cells from regs
   operate None op names to i h temps at from next r left k env go v w cells regs fits e d =
       both_end left _ _ env cells from next regs i Stuck (ap (λ o. source.give o k env cells) e) r d
   operate (Some (Err s)) op names to i h temps at from next r left k env go v w cells regs fits e d =
@@ -161,18 +182,27 @@ module _ (words : List ℕ) (ks : List Constant) (place : ℕ → Option ℕ) wh
   operate (Some (Ok z)) op names to i h temps at from next r left k env go v w cells regs fits e d =
       by_source left _ (Give z) _ k env env cells cells from regs (ap (λ o. source.give o k env cells) e)
       (by_machine left _ k env cells from next next regs _ i r d
-      (go left (omega arith) z cells _ (fits_push cells regs env names temps to z at (fits_pop cells regs env names v temps (fits_pop cells regs env names w (v ∷ temps) fits)))))
+      (go left (omega arith) z cells _ (fits_push cells regs env names temps to z at
+      (fits_pop cells regs env names v temps (fits_pop cells regs env names w (v ∷ temps) fits)))))
 
-  pub second_newest : (names : List StrId) (temps : List Value) (to : ℕ) → length names + length temps ≡ to → (v w : Value) (cells : List Value) (regs : Registers) (env : Environment) → Fits cells regs env names (w ∷ v ∷ temps) → (regs to ≡ v) × (regs (to + 1) ≡ w)
-  second_newest names temps to at v w cells regs env fits =
-      (ap regs (sym at) ∙ fits_newest cells regs env names v temps (fits_pop cells regs env names w (v ∷ temps) fits), ap regs (omega (arith, at)) ∙ fits_newest cells regs env names w (v ∷ temps) fits)
+  pub second_newest : (names : List StrId) (temps : List Value) (to : ℕ) → length names + length temps ≡ to →
+      (v w : Value) (cells : List Value) (regs : Registers) (env : Environment) → Fits cells regs env names (w ∷ v ∷ temps) →
+      (regs to ≡ v) × (regs (to + 1) ≡ w)
+  second_newest names temps to at v w cells regs env fits = (
+    ap regs (sym at) ∙ fits_newest cells regs env names v temps (fits_pop cells regs env names w (v ∷ temps) fits),
+    ap regs
+        (omega (arith, at)) ∙ fits_newest cells regs env names w (v ∷ temps) fits,
+  )
 
-  pub expr_same : (names : List StrId) (to : ℕ) (e : Expr) (is : List Instruction) → IsValueCode ks names to e is → (temps : List Value) → length names + length temps ≡ to → (from next : ℕ) → Reads words place from (map item.Insn is) next → (left : ℕ) (k : List Frame) (env : Environment) → WithValue left env names temps k next → (cells : List Value) (regs : Registers) → Fits cells regs env names temps → Same left (Evaluate e) k env cells from regs
+  pub expr_same : (names : List StrId) (to : ℕ) (e : Expr) (is : List Instruction) → IsValueCode ks names to e is → (temps : List Value) →
+      length names + length temps ≡ to → (from next : ℕ) → Reads words place from (map item.Insn is) next →
+      (left : ℕ) (k : List Frame) (env : Environment) → WithValue left env names temps k next → (cells : List Value) (regs : Registers) →
+      Fits cells regs env names temps → Same left (Evaluate e) k env cells from regs
   expr_same names _ _ _ (IsValueCode.number to e v is h code) temps at from next r left k env go cells regs fits =
       by_source left _ (Give (value.Number v)) k k env env cells cells from regs (opened e (level.Num v) k env cells (ap out-ExprKind h ∙ views.outs-Num v))
       (number_same names to v is code temps at from next r left k env go cells regs fits)
   expr_same names _ _ _ (IsValueCode.name to reg e x h there) temps at from next r left k env go cells regs fits =
-      let l = read cells regs env names x reg fits.locals there in
+      let l = read cells regs env names x reg fits.locals (as_newest names x (Some reg) there) in
       by_source left _ (Give (regs reg)) k k env env cells cells from regs
       (opened e (level.Name x) k env cells (ap out-ExprKind h ∙ views.outs-Name x)
       ∙ ap (λ o. source.named o x k env cells) l.found
@@ -183,7 +213,8 @@ module _ (words : List ℕ) (ks : List Constant) (place : ℕ → Option ℕ) wh
   expr_same names _ _ _ (IsValueCode.result to e a b op i is js h i_is left_code right_code) temps at from next r left k env go cells regs fits =
       let p = split_insns words place is (js ++ i ∷ []) from next r in
       let q = split_insns words place js (i ∷ []) p.0 next p.2 in
-      by_source left _ (Evaluate a) k (LeftOperand op b ∷ k) env env cells cells from regs (opened e (level.Binary op a b) k env cells (ap out-ExprKind h ∙ views.outs-Binary op a b))
+      by_source left _ (Evaluate a) k (LeftOperand op b ∷ k) env env cells cells from regs
+      (opened e (level.Binary op a b) k env cells (ap out-ExprKind h ∙ views.outs-Binary op a b))
       (expr_same names to a is left_code temps at from p.0 p.1 left (LeftOperand op b ∷ k) env
       (λ left1 le1 v cells1 regs1 fits1.
       by_source left1 _ (Evaluate b) _ (RightOperand op v ∷ k) env env cells1 cells1 p.0 regs1 refl
@@ -194,7 +225,11 @@ module _ (words : List ℕ) (ks : List Constant) (place : ℕ → Option ℕ) wh
       cells1 regs1 fits1))
       cells regs fits)
     where
-      at_here : (op : BinOp) (names : List StrId) (to : ℕ) (i : Instruction) → operation op to to (to + 1) ≡ Some i → (temps : List Value) → length names + length temps ≡ to → (from next : ℕ) → Reads words place from (item.Insn i ∷ []) next → (left : ℕ) (k : List Frame) (env : Environment) → WithValue left env names temps k next → (v w : Value) (cells : List Value) (regs : Registers) → Fits cells regs env names (w ∷ v ∷ temps) → regs to ≡ v → regs (to + 1) ≡ w → Same left (Give w) (RightOperand op v ∷ k) env cells from regs
+      at_here : (op : BinOp) (names : List StrId) (to : ℕ) (i : Instruction) → operation op to to (to + 1) ≡ Some i →
+          (temps : List Value) → length names + length temps ≡ to → (from next : ℕ) → Reads words place from (item.Insn i ∷ []) next →
+          (left : ℕ) (k : List Frame) (env : Environment) → WithValue left env names temps k next →
+          (v w : Value) (cells : List Value) (regs : Registers) → Fits cells regs env names (w ∷ v ∷ temps) → regs to ≡ v →
+          regs (to + 1) ≡ w → Same left (Give w) (RightOperand op v ∷ k) env cells from regs
       at_here op names to i i_is temps at from next r left k env go v w cells regs fits x y =
           operate (source.result_of op v w) op names to i i_is temps at from next (r.0 ∙ ap (λ n. Some (i, n)) r.1) left k env go v w cells regs fits refl
           (machine_operates ks op to to (to + 1) i from next regs i_is
@@ -206,14 +241,21 @@ module _ (words : List ℕ) (ks : List Constant) (place : ℕ → Option ℕ) wh
   -- what is to be shown of the rest, where a condition is answered
   abbrev pub WithAnswer : ℕ → Environment → List StrId → List Frame → Bool → ℕ → Type 0
   WithAnswer left env names k b to =
-      (left' : ℕ) → left' ≤ left → (cells : List Value) (regs : Registers) → Locals cells regs env names → Same left' (Give (value.Boolean b)) k env cells to regs
+      (left' : ℕ) → left' ≤ left → (cells : List Value) (regs : Registers) → Locals cells regs env names →
+      Same left' (Give (value.Boolean b)) k env cells to regs
 
   -- a condition is answered here, and goes on there where it is false
   abbrev pub ConditionRuns : Expr → List StrId → (from to out : ℕ) → Type 0
   ConditionRuns cond names from to out =
-      (left : ℕ) (k : List Frame) (env : Environment) → WithAnswer left env names k true to → WithAnswer left env names k false out → (cells : List Value) (regs : Registers) → Locals cells regs env names → Same left (Evaluate cond) k env cells from regs
+      (left : ℕ) (k : List Frame) (env : Environment) → WithAnswer left env names k true to → WithAnswer left env names k false out →
+      (cells : List Value) (regs : Registers) → Locals cells regs env names → Same left (Evaluate cond) k env cells from regs
 
-  compare : (o : Option Bool) (op : BinOp) (names : List StrId) (i : Instruction) (from next out : ℕ) (by : ℤ) → insn_at words from ≡ Some (i, next) → pos (from + 1) +ℤ by ≡ pos out → from + 1 ≤ out → (left : ℕ) (k : List Frame) (env : Environment) → WithAnswer left env names k true next → WithAnswer left env names k false out → (v w : Value) (cells : List Value) (regs : Registers) → Locals cells regs env names → source.result_of op v w ≡ source.truth o → machine.row ks i from next regs ≡ machine.branch (option_map not o) by from next regs → Same left (Give w) (RightOperand op v ∷ k) env cells from regs
+  compare : (o : Option Bool) (op : BinOp) (names : List StrId) (i : Instruction) (from next out : ℕ) (by : ℤ) →
+      insn_at words from ≡ Some (i, next) → pos (from + 1) +ℤ by ≡ pos out → from + 1 ≤ out →
+      (left : ℕ) (k : List Frame) (env : Environment) → WithAnswer left env names k true next → WithAnswer left env names k false out →
+      (v w : Value) (cells : List Value) (regs : Registers) → Locals cells regs env names → source.result_of op v w ≡ source.truth o →
+      machine.row ks i from next regs ≡ machine.branch (option_map not o) by from next regs →
+      Same left (Give w) (RightOperand op v ∷ k) env cells from regs
   compare None op names i from next out by r reaches le left k env on_true on_false v w cells regs ls e d =
       both_end left _ _ env cells from next regs i Stuck (ap (λ o. source.give o k env cells) e) r d
   compare (Some true) op names i from next out by r reaches le left k env on_true on_false v w cells regs ls e d =
@@ -225,14 +267,17 @@ module _ (words : List ℕ) (ks : List Constant) (place : ℕ → Option ℕ) wh
       (by_machine left _ k env cells from next out regs regs i r (d ∙ ahead by from out regs reaches le)
       (on_false left (omega arith) cells regs ls))
 
-  pub condition_same : (names : List StrId) (label : ℕ) (cond : Expr) (items : List Item) → IsTestCode ks names label cond items → (from next out : ℕ) → Reads words place from items next → place label ≡ Some out → next ≤ out → ConditionRuns cond names from next out
-  condition_same names label cond _ (IsTestCode.tests a b op i is js h i_is left_code right_code) from next out r there le left k env on_true on_false cells regs ls =
+  pub condition_same : (names : List StrId) (label : ℕ) (cond : Expr) (items : List Item) → IsTestCode ks names label cond items →
+      (from next out : ℕ) → Reads words place from items next → place label ≡ Some out → next ≤ out → ConditionRuns cond names from next out
+  condition_same names label cond _ (IsTestCode.tests a b op i is js h i_is left_code right_code) from next out r there le left k env
+      on_true on_false cells regs ls =
       let n = length names in
       let p = split words place (map item.Insn (is ++ js)) (item.Branch i label ∷ []) from next r in
       let q = split_insns words place is js from p.0 p.1 in
       let jump = p.2.0 in
       let target : jump.target ≡ out = same_place (place label) jump.target out jump.placed there in
-      by_source left _ (Evaluate a) k (LeftOperand op b ∷ k) env env cells cells from regs (opened cond (level.Binary op a b) k env cells (ap out-ExprKind h ∙ views.outs-Binary op a b))
+      by_source left _ (Evaluate a) k (LeftOperand op b ∷ k) env env cells cells from regs
+      (opened cond (level.Binary op a b) k env cells (ap out-ExprKind h ∙ views.outs-Binary op a b))
       (expr_same names n a is left_code [] (omega arith) from q.0 q.1 left (LeftOperand op b ∷ k) env
       (λ left1 le1 v cells1 regs1 fits1.
       by_source left1 _ (Evaluate b) _ (RightOperand op v ∷ k) env env cells1 cells1 q.0 regs1 refl
@@ -259,7 +304,8 @@ module _ (words : List ℕ) (ks : List Constant) (place : ℕ → Option ℕ) wh
   -- what is to be shown of the rest, where a statement is over, or a block
   abbrev pub Afterwards : ℕ → Environment → List StrId → List StrId → List Frame → ℕ → Type 0
   Afterwards left env names names' k to =
-      (left' : ℕ) → left' ≤ left → (env' : Environment) (cells : List Value) (regs : Registers) → Locals cells regs env' names' → Since env' names' env names → Same left' Done k env' cells to regs
+      (left' : ℕ) → left' ≤ left → (env' : Environment) (cells : List Value) (regs : Registers) → Locals cells regs env' names' →
+      Since env' names' env names → Same left' Done k env' cells to regs
 
   -- the same, where the variables are those from before it
   abbrev pub Back : ℕ → Environment → List StrId → List Frame → ℕ → Type 0
@@ -269,13 +315,18 @@ module _ (words : List ℕ) (ks : List Constant) (place : ℕ → Option ℕ) wh
   -- a block that is entered here is over there
   abbrev pub BlockRuns : List Stat → List StrId → (from to : ℕ) → Type 0
   BlockRuns ss names from to =
-      (left : ℕ) (k : List Frame) (env : Environment) → Back left env names k to → (cells : List Value) (regs : Registers) → Locals cells regs env names → Same left (ExecuteAll ss) (Restores env ∷ k) env cells from regs
+      (left : ℕ) (k : List Frame) (env : Environment) → Back left env names k to → (cells : List Value) (regs : Registers) →
+      Locals cells regs env names → Same left (ExecuteAll ss) (Restores env ∷ k) env cells from regs
 
-  unchanged : (left : ℕ) (env : Environment) (names : List StrId) (s : Stat) (k : List Frame) (to : ℕ) → names_after names s ≡ names → Afterwards left env names (names_after names s) k to → Back left env names k to
+  unchanged : (left : ℕ) (env : Environment) (names : List StrId) (s : Stat) (k : List Frame) (to : ℕ) → names_after names s ≡ names →
+      Afterwards left env names (names_after names s) k to → Back left env names k to
   unchanged left env names s k to e go left' le cells regs ls =
       go left' le env cells regs (subst (λ ns. Locals cells regs env ns) (sym e) ls) (subst (λ ns. Since env ns env names) (sym e) (Since.unchanged env names))
 
-  declare_same : (names : List StrId) (s : Stat) (x : StrId) (e : Expr) (is : List Instruction) → s.kind ≡ stat.Local (x ∷ []) (e ∷ []) → IsValueCode ks names (length names) e is → (from to : ℕ) → Reads words place from (map item.Insn is) to → (left : ℕ) (k : List Frame) (env : Environment) → Afterwards left env names (names_after names s) k to → (cells : List Value) (regs : Registers) → Locals cells regs env names → Same left (Execute s) k env cells from regs
+  declare_same : (names : List StrId) (s : Stat) (x : StrId) (e : Expr) (is : List Instruction) → s.kind ≡ stat.Local (x ∷ []) (e ∷ []) →
+      IsValueCode ks names (length names) e is → (from to : ℕ) → Reads words place from (map item.Insn is) to →
+      (left : ℕ) (k : List Frame) (env : Environment) → Afterwards left env names (names_after names s) k to →
+      (cells : List Value) (regs : Registers) → Locals cells regs env names → Same left (Execute s) k env cells from regs
   declare_same names s x e is h code from to r left k env go cells regs ls =
       let opens : out-StatKind s.kind ≡ level.Local (x ∷ []) (e ∷ []) = ap out-StatKind h ∙ views.outs-Local (x ∷ []) (e ∷ []) in
       let after : names_after names s ≡ x ∷ names = names_are names s _ opens in
@@ -284,11 +335,17 @@ module _ (words : List ℕ) (ks : List Constant) (place : ℕ → Option ℕ) wh
       (λ left1 le1 v cells1 regs1 fits1.
       by_source left1 _ Done _ k env ((x, length cells1) ∷ env) cells1 (cells1 ++ v ∷ []) to regs1 refl
       (go left1 le1 ((x, length cells1) ∷ env) (cells1 ++ v ∷ []) regs1
-      (subst (λ ns. Locals (cells1 ++ v ∷ []) regs1 ((x, length cells1) ∷ env) ns) (sym after) (locals_declare cells1 regs1 env names x v (ap regs1 (omega arith) ∙ fits_newest cells1 regs1 env names v [] fits1) fits1.locals))
+      (subst (λ ns. Locals (cells1 ++ v ∷ []) regs1 ((x, length cells1) ∷ env) ns) (sym after)
+      (locals_declare cells1 regs1 env names x v (ap regs1 (omega arith) ∙ fits_newest cells1 regs1 env names v [] fits1) fits1.locals))
       (subst (λ ns. Since ((x, length cells1) ∷ env) ns env names) (sym after) (Since.one x (length cells1) env names env names (Since.unchanged env names)))))
       cells regs (record { locals = ls; temporaries = Temporaries.none }))
 
-  assign_same : (names : List StrId) (s : Stat) (target e : Expr) (x : StrId) (reg : ℕ) (is : List Instruction) → s.kind ≡ stat.Assign (target ∷ []) (e ∷ []) → target.kind ≡ expr.Name x → register_of names x ≡ Some reg → IsValueCode ks names (length names) e is → (from to : ℕ) → Reads words place from (map item.Insn (is ++ insn.Move reg (length names) ∷ [])) to → (left : ℕ) (k : List Frame) (env : Environment) → Afterwards left env names (names_after names s) k to → (cells : List Value) (regs : Registers) → Locals cells regs env names → Same left (Execute s) k env cells from regs
+  assign_same : (names : List StrId) (s : Stat) (target e : Expr) (x : StrId) (reg : ℕ) (is : List Instruction) →
+      s.kind ≡ stat.Assign (target ∷ []) (e ∷ []) → target.kind ≡ expr.Name x → register_of names x ≡ Some reg →
+      IsValueCode ks names (length names) e is → (from to : ℕ) →
+      Reads words place from (map item.Insn (is ++ insn.Move reg (length names) ∷ [])) to →
+      (left : ℕ) (k : List Frame) (env : Environment) → Afterwards left env names (names_after names s) k to →
+      (cells : List Value) (regs : Registers) → Locals cells regs env names → Same left (Execute s) k env cells from regs
   assign_same names s target e x reg is h t there code from to r left k env go cells regs ls =
       let opens : out-StatKind s.kind ≡ level.Assign (target ∷ []) (e ∷ []) = ap out-StatKind h ∙ views.outs-Assign (target ∷ []) (e ∷ []) in
       let p = split_insns words place is (insn.Move reg (length names) ∷ []) from to r in
@@ -296,16 +353,21 @@ module _ (words : List ℕ) (ks : List Constant) (place : ℕ → Option ℕ) wh
       (begun s _ k env cells opens ∙ ap (λ l. source.begin_assignment l e k env cells) (ap out-ExprKind t ∙ views.outs-Name x))
       (expr_same names (length names) e is code [] (omega arith) from p.0 p.1 left (Assigns x ∷ k) env
       (λ left1 le1 v cells1 regs1 fits1.
-      let l = read cells1 regs1 env names x reg fits1.locals there in
+      let register = as_newest names x (Some reg) there in
+      let l = read cells1 regs1 env names x reg fits1.locals register in
       let value : regs1 (length names) ≡ v = ap regs1 (omega arith) ∙ fits_newest cells1 regs1 env names v [] fits1 in
       by_source left1 _ Done _ k env env cells1 (slice_set cells1 l.cell v) p.0 regs1 (ap (λ o. source.assign o v k env cells1) l.found)
       (by_machine left1 _ k env (slice_set cells1 l.cell v) p.0 _ _ regs1 (put regs1 reg v) _ p.2.0 (ap (λ u. machine.at (p.0 + 1) (put regs1 reg u)) value)
       (at_place left1 _ k env (slice_set cells1 l.cell v) (p.0 + 1) to _ p.2.1
-      (unchanged left env names s k to (names_are names s _ opens) go left1 le1 (slice_set cells1 l.cell v) (put regs1 reg v) (locals_assign cells1 regs1 env names x l.cell reg v l.found there fits1.locals)))))
+      (unchanged left env names s k to (names_are names s _ opens) go left1 le1 (slice_set cells1 l.cell v) (put regs1 reg v)
+      (locals_assign cells1 regs1 env names x l.cell reg v l.found register fits1.locals)))))
       cells regs (record { locals = ls; temporaries = Temporaries.none }))
 
   -- a call of `print` on the two newest temporaries
-  show : (o : Option (List ℕ)) (names : List StrId) (from to : ℕ) → insn_at words from ≡ Some (insn.Call (length names) 2 1, to) → (left : ℕ) (k : List Frame) (env : Environment) → Back left env names k to → (v : Value) (cells : List Value) (regs : Registers) → Locals cells regs env names → printed v ≡ o → machine.row ks (insn.Call (length names) 2 1) from to regs ≡ machine.shows o to regs → Same left (Give v) (Argument value.Print ∷ Discards ∷ k) env cells from regs
+  show : (o : Option (List ℕ)) (names : List StrId) (from to : ℕ) → insn_at words from ≡ Some (insn.Call (length names) 2 1, to) →
+      (left : ℕ) (k : List Frame) (env : Environment) → Back left env names k to → (v : Value) (cells : List Value) (regs : Registers) →
+      Locals cells regs env names → printed v ≡ o → machine.row ks (insn.Call (length names) 2 1) from to regs ≡ machine.shows o to regs →
+      Same left (Give v) (Argument value.Print ∷ Discards ∷ k) env cells from regs
   show None names from to r left k env go v cells regs ls e d =
       both_end left _ _ env cells from to regs _ Stuck (ap (λ o. source.shows o (Discards ∷ k) env cells) e) r d
   show (Some text) names from to r left k env go v cells regs ls e d =
@@ -313,48 +375,68 @@ module _ (words : List ℕ) (ks : List Constant) (place : ℕ → Option ℕ) wh
       (by_source left _ Done _ k env env cells cells to regs refl
       (go left (omega arith) cells regs ls))
 
-  print_same : (names : List StrId) (s : Stat) (call : Expr) (is : List Instruction) → s.kind ≡ stat.Call call → register_of names print_name ≡ None → IsPrintCode ks names call is → (from to : ℕ) → Reads words place from (map item.Insn is) to → (left : ℕ) (k : List Frame) (env : Environment) → Back left env names k to → (cells : List Value) (regs : Registers) → Locals cells regs env names → Same left (Execute s) k env cells from regs
-  print_same names s call _ h free (IsPrintCode.print callee e c is called named constant code) from to r left k env go cells regs ls =
+  print_same : (names : List StrId) (s : Stat) (call : Expr) (is : List Instruction) → s.kind ≡ stat.Call call →
+      IsPrintCode ks names call is → (from to : ℕ) → Reads words place from (map item.Insn is) to →
+      (left : ℕ) (k : List Frame) (env : Environment) → Back left env names k to → (cells : List Value) (regs : Registers) →
+      Locals cells regs env names → Same left (Execute s) k env cells from regs
+  print_same names s call _ h (IsPrintCode.print callee e c is called named free constant code) from to r left k env go cells regs ls =
       let n = length names in
       let opens : out-ExprKind call.kind ≡ level.ExprKind::Call callee (e ∷ []) = ap out-ExprKind called ∙ views.outs-ExprKind::Call callee (e ∷ []) in
       let p = split_insns words place is (insn.Call n 2 1 ∷ []) _ to r.1 in
-      by_source left _ (Evaluate call) k (Discards ∷ k) env env cells cells from regs (begun s _ k env cells (ap out-StatKind h ∙ views.outs-StatKind::Call call))
+      by_source left _ (Evaluate call) k (Discards ∷ k) env env cells cells from regs
+      (begun s _ k env cells (ap out-StatKind h ∙ views.outs-StatKind::Call call))
       (by_source left _ (Evaluate callee) _ (Callee e ∷ Discards ∷ k) env env cells cells from regs (opened call _ (Discards ∷ k) env cells opens)
       (by_source left _ (Give value.Print) _ (Callee e ∷ Discards ∷ k) env env cells cells from regs
       (opened callee (level.Name print_name) (Callee e ∷ Discards ∷ k) env cells (ap out-ExprKind named ∙ views.outs-Name print_name)
-      ∙ ap (λ o. source.named o print_name (Callee e ∷ Discards ∷ k) env cells) (read_none cells regs env names print_name ls free))
+      ∙ ap (λ o. source.named o print_name (Callee e ∷ Discards ∷ k) env cells)
+      (read_none cells regs env names print_name ls (as_newest names print_name None free)))
       (by_source left _ (Evaluate e) _ (Argument value.Print ∷ Discards ∷ k) env env cells cells from regs refl
-      (by_machine left _ (Argument value.Print ∷ Discards ∷ k) env cells from _ _ regs (put regs n value.Print) _ r.0 (ap (λ o. machine.fetch o n (from + length (encoded (insn.GetGlobal n c))) regs) constant)
+      (by_machine left _ (Argument value.Print ∷ Discards ∷ k) env cells from _ _ regs (put regs n value.Print) _ r.0
+      (ap (λ o. machine.fetch o n (from + length (encoded (insn.GetGlobal n c))) regs) constant)
       (expr_same names (n + 1) e is code (value.Print ∷ []) (omega arith) _ p.0 p.1 left (Argument value.Print ∷ Discards ∷ k) env
       (λ left1 le1 v cells1 regs1 fits1.
       let at = second_newest names [] n (omega arith) value.Print v cells1 regs1 env fits1 in
-      show (printed v) names p.0 to (p.2.0 ∙ ap (λ q. Some (insn.Call n 2 1, q)) p.2.1) left1 k env (λ left2 le2. go left2 (omega (arith, le1, le2))) v cells1 regs1 fits1.locals refl
+      show (printed v) names p.0 to (p.2.0 ∙ ap (λ q. Some (insn.Call n 2 1, q)) p.2.1) left1 k env
+      (λ left2 le2. go left2 (omega (arith, le1, le2))) v cells1 regs1 fits1.locals refl
       (ap (λ u. machine.call u (regs1 (n + 1)) true true to regs1) at.0 ∙ ap (λ u. machine.shows (printed u) to regs1) at.1))
       cells _ (fits_push cells regs env names [] n value.Print (omega arith) (record { locals = ls; temporaries = Temporaries.none })))))))
 
   -- a branch without a block of `else`
-  choose_same : (names : List StrId) (s : Stat) (arm : Arm) (over : ℕ) (cond body : List Item) → s.kind ≡ stat.If (arm ∷ []) None → IsTestCode ks names over (out-Arm arm).cond cond → (from to : ℕ) → Reads words place from (branch over cond body) to → ((from to : ℕ) → Reads words place from body to → BlockRuns (out-Arm arm).body names from to) → (left : ℕ) (k : List Frame) (env : Environment) → Back left env names k to → (cells : List Value) (regs : Registers) → Locals cells regs env names → Same left (Execute s) k env cells from regs
+  choose_same : (names : List StrId) (s : Stat) (arm : Arm) (over : ℕ) (cond body : List Item) → s.kind ≡ stat.If (arm ∷ []) None →
+      IsTestCode ks names over (out-Arm arm).cond cond → (from to : ℕ) → Reads words place from (branch over cond body) to →
+      ((from to : ℕ) → Reads words place from body to → BlockRuns (out-Arm arm).body names from to) →
+      (left : ℕ) (k : List Frame) (env : Environment) → Back left env names k to → (cells : List Value) (regs : Registers) →
+      Locals cells regs env names → Same left (Execute s) k env cells from regs
   choose_same names s arm over cond body h code from to r runs left k env go cells regs ls =
       let p = split words place cond _ from to r in
       let q = split words place body _ p.0 to p.2 in
       let later = on words place body p.0 q.0 q.1 in
-      by_source left _ (Choose (arm ∷ []) None) k k env env cells cells from regs (begun s _ k env cells (ap out-StatKind h ∙ views.outs-StatKind::If (arm ∷ []) None))
+      by_source left _ (Choose (arm ∷ []) None) k k env env cells cells from regs
+      (begun s _ k env cells (ap out-StatKind h ∙ views.outs-StatKind::If (arm ∷ []) None))
       (by_source left _ (Evaluate (out-Arm arm).cond) k (Chooses (out-Arm arm).body [] None ∷ k) env env cells cells from regs refl
       (condition_same names over (out-Arm arm).cond cond code from p.0 q.0 p.1 q.2.0 later left (Chooses (out-Arm arm).body [] None ∷ k) env
       (λ left1 le1 cells1 regs1 ls1.
-      by_source left1 _ (ExecuteAll (out-Arm arm).body) _ (Restores env ∷ k) env env cells1 cells1 p.0 regs1 (ap (λ b. source.chosen b (out-Arm arm).body [] None k env cells1) (truth_of true))
+      by_source left1 _ (ExecuteAll (out-Arm arm).body) _ (Restores env ∷ k) env env cells1 cells1 p.0 regs1
+      (ap (λ b. source.chosen b (out-Arm arm).body [] None k env cells1) (truth_of true))
       (runs p.0 q.0 q.1 left1 k env
       (λ left2 le2 cells2 regs2 ls2.
       at_place left2 _ k env cells2 q.0 to regs2 q.2.1 (go left2 (omega (arith, le1, le2)) cells2 regs2 ls2))
       cells1 regs1 ls1))
       (λ left1 le1 cells1 regs1 ls1.
-      by_source left1 _ (Choose [] None) _ k env env cells1 cells1 q.0 regs1 (ap (λ b. source.chosen b (out-Arm arm).body [] None k env cells1) (truth_of false))
+      by_source left1 _ (Choose [] None) _ k env env cells1 cells1 q.0 regs1
+      (ap (λ b. source.chosen b (out-Arm arm).body [] None k env cells1) (truth_of false))
       (by_source left1 _ Done k k env env cells1 cells1 q.0 regs1 refl
       (at_place left1 _ k env cells1 q.0 to regs1 q.2.1 (go left1 le1 cells1 regs1 ls1))))
       cells regs ls))
 
   -- a branch with a block of `else`
-  decide_same : (names : List StrId) (s : Stat) (arm : Arm) (others : List Stat) (to_other over : ℕ) (cond body other : List Item) → s.kind ≡ stat.If (arm ∷ []) (Some others) → IsTestCode ks names to_other (out-Arm arm).cond cond → (from to : ℕ) → Reads words place from (branches to_other over cond body other) to → ((from to : ℕ) → Reads words place from body to → BlockRuns (out-Arm arm).body names from to) → ((from to : ℕ) → Reads words place from other to → BlockRuns others names from to) → (left : ℕ) (k : List Frame) (env : Environment) → Back left env names k to → (cells : List Value) (regs : Registers) → Locals cells regs env names → Same left (Execute s) k env cells from regs
+  decide_same : (names : List StrId) (s : Stat) (arm : Arm) (others : List Stat) (to_other over : ℕ) (cond body other : List Item) →
+      s.kind ≡ stat.If (arm ∷ []) (Some others) → IsTestCode ks names to_other (out-Arm arm).cond cond → (from to : ℕ) →
+      Reads words place from (branches to_other over cond body other) to →
+      ((from to : ℕ) → Reads words place from body to → BlockRuns (out-Arm arm).body names from to) →
+      ((from to : ℕ) → Reads words place from other to → BlockRuns others names from to) →
+      (left : ℕ) (k : List Frame) (env : Environment) → Back left env names k to → (cells : List Value) (regs : Registers) →
+      Locals cells regs env names → Same left (Execute s) k env cells from regs
   decide_same names s arm others to_other over cond body other h code from to r runs others_run left k env go cells regs ls =
       let p = split words place cond _ from to r in
       let q = split words place body _ p.0 to p.2 in
@@ -364,11 +446,14 @@ module _ (words : List ℕ) (ks : List Constant) (place : ℕ → Option ℕ) wh
       let later = on words place body p.0 q.0 q.1 in
       let last = on words place other behind t.0 t.1 in
       let end : jump.target ≡ t.0 = same_place (place over) jump.target t.0 jump.placed t.2.0 in
-      by_source left _ (Choose (arm ∷ []) (Some others)) k k env env cells cells from regs (begun s _ k env cells (ap out-StatKind h ∙ views.outs-StatKind::If (arm ∷ []) (Some others)))
+      by_source left _ (Choose (arm ∷ []) (Some others)) k k env env cells cells from regs
+      (begun s _ k env cells (ap out-StatKind h ∙ views.outs-StatKind::If (arm ∷ []) (Some others)))
       (by_source left _ (Evaluate (out-Arm arm).cond) k (Chooses (out-Arm arm).body [] (Some others) ∷ k) env env cells cells from regs refl
-      (condition_same names to_other (out-Arm arm).cond cond code from p.0 behind p.1 q.2.1.0 (omega (arith, later)) left (Chooses (out-Arm arm).body [] (Some others) ∷ k) env
+      (condition_same names to_other (out-Arm arm).cond cond code from p.0 behind p.1 q.2.1.0 (omega (arith, later)) left
+      (Chooses (out-Arm arm).body [] (Some others) ∷ k) env
       (λ left1 le1 cells1 regs1 ls1.
-      by_source left1 _ (ExecuteAll (out-Arm arm).body) _ (Restores env ∷ k) env env cells1 cells1 p.0 regs1 (ap (λ b. source.chosen b (out-Arm arm).body [] (Some others) k env cells1) (truth_of true))
+      by_source left1 _ (ExecuteAll (out-Arm arm).body) _ (Restores env ∷ k) env env cells1 cells1 p.0 regs1
+      (ap (λ b. source.chosen b (out-Arm arm).body [] (Some others) k env cells1) (truth_of true))
       (runs p.0 q.0 q.1 left1 k env
       (λ left2 le2 cells2 regs2 ls2.
       by_machine left2 _ k env cells2 q.0 _ t.0 regs2 regs2 _ jump.read
@@ -376,7 +461,8 @@ module _ (words : List ℕ) (ks : List Constant) (place : ℕ → Option ℕ) wh
       (at_place left2 _ k env cells2 t.0 to regs2 t.2.1 (go left2 (omega (arith, le1, le2)) cells2 regs2 ls2)))
       cells1 regs1 ls1))
       (λ left1 le1 cells1 regs1 ls1.
-      by_source left1 _ (Choose [] (Some others)) _ k env env cells1 cells1 behind regs1 (ap (λ b. source.chosen b (out-Arm arm).body [] (Some others) k env cells1) (truth_of false))
+      by_source left1 _ (Choose [] (Some others)) _ k env env cells1 cells1 behind regs1
+      (ap (λ b. source.chosen b (out-Arm arm).body [] (Some others) k env cells1) (truth_of false))
       (by_source left1 _ (ExecuteAll others) k (Restores env ∷ k) env env cells1 cells1 behind regs1 refl
       (others_run behind t.0 t.1 left1 k env
       (λ left2 le2 cells2 regs2 ls2.
@@ -385,24 +471,34 @@ module _ (words : List ℕ) (ks : List Constant) (place : ℕ → Option ℕ) wh
       cells regs ls))
 
   -- a turn of a loop, and the turns after it: there are no more than are left
-  turns_same : (cond : Expr) (stats : List Stat) (names : List StrId) (from body back out : ℕ) (by : ℤ) → ConditionRuns cond names from body out → BlockRuns stats names body back → insn_at words back ≡ Some (insn.JumpBack by, out) → pos (back + 1) +ℤ by ≡ pos from → (bound left : ℕ) → left < bound → (k : List Frame) (env : Environment) → Back left env names k out → (cells : List Value) (regs : Registers) → Locals cells regs env names → Same left (Evaluate cond) (Loops cond stats ∷ k) env cells from regs
+  turns_same : (cond : Expr) (stats : List Stat) (names : List StrId) (from body back out : ℕ) (by : ℤ) →
+      ConditionRuns cond names from body out → BlockRuns stats names body back → insn_at words back ≡ Some (insn.JumpBack by, out) →
+      pos (back + 1) +ℤ by ≡ pos from → (bound left : ℕ) → left < bound → (k : List Frame) (env : Environment) →
+      Back left env names k out → (cells : List Value) (regs : Registers) → Locals cells regs env names →
+      Same left (Evaluate cond) (Loops cond stats ∷ k) env cells from regs
   turns_same cond stats names from body back out by asks runs h reaches zero left lt k env go cells regs ls = absurd (omega (arith, lt))
   turns_same cond stats names from body back out by asks runs h reaches (suc bound) left lt k env go cells regs ls =
       asks left (Loops cond stats ∷ k) env
       (λ left1 le1 cells1 regs1 ls1.
-      by_source left1 _ (ExecuteAll stats) _ (Restores env ∷ Repeats cond stats ∷ k) env env cells1 cells1 body regs1 (ap (λ b. source.looped b cond stats k env cells1) (truth_of true))
+      by_source left1 _ (ExecuteAll stats) _ (Restores env ∷ Repeats cond stats ∷ k) env env cells1 cells1 body regs1
+      (ap (λ b. source.looped b cond stats k env cells1) (truth_of true))
       (runs left1 (Repeats cond stats ∷ k) env
       (λ left2 le2 cells2 regs2 ls2.
       together.both_charge _ _ _ _ _ _ _ _ _ left2 refl
       (ap (λ o. machine.act ks o back regs2) h ∙ ap (λ z. machine.charge z regs2) reaches)
-      (λ fewer e. turns_same cond stats names from body back out by asks runs h reaches bound fewer (omega (arith, lt, le1, le2, e)) k env (λ left3 le3. go left3 (omega (arith, le1, le2, le3, e))) cells2 regs2 ls2))
+      (λ fewer e. turns_same cond stats names from body back out by asks runs h reaches bound fewer (omega (arith, lt, le1, le2, e)) k env
+      (λ left3 le3. go left3 (omega (arith, le1, le2, le3, e))) cells2 regs2 ls2))
       cells1 regs1 ls1))
       (λ left1 le1 cells1 regs1 ls1.
       by_source left1 _ Done _ k env env cells1 cells1 out regs1 (ap (λ b. source.looped b cond stats k env cells1) (truth_of false))
       (go left1 le1 cells1 regs1 ls1))
       cells regs ls
 
-  loop_same : (names : List StrId) (s : Stat) (condition : Expr) (stats : List Stat) (start over : ℕ) (cond body : List Item) → s.kind ≡ stat.While condition stats → IsTestCode ks names over condition cond → (from to : ℕ) → Reads words place from (loop start over cond body) to → ((from to : ℕ) → Reads words place from body to → BlockRuns stats names from to) → (left : ℕ) (k : List Frame) (env : Environment) → Back left env names k to → (cells : List Value) (regs : Registers) → Locals cells regs env names → Same left (Execute s) k env cells from regs
+  loop_same : (names : List StrId) (s : Stat) (condition : Expr) (stats : List Stat) (start over : ℕ) (cond body : List Item) →
+      s.kind ≡ stat.While condition stats → IsTestCode ks names over condition cond → (from to : ℕ) →
+      Reads words place from (loop start over cond body) to →
+      ((from to : ℕ) → Reads words place from body to → BlockRuns stats names from to) → (left : ℕ) (k : List Frame) (env : Environment) →
+      Back left env names k to → (cells : List Value) (regs : Registers) → Locals cells regs env names → Same left (Execute s) k env cells from regs
   loop_same names s condition stats start over cond body h code from to r runs left k env go cells regs ls =
       let p = split words place cond _ from to r.1 in
       let q = split words place body _ p.0 to p.2 in
@@ -410,7 +506,8 @@ module _ (words : List ℕ) (ks : List Constant) (place : ℕ → Option ℕ) wh
       let behind = q.0 + length (encoded (insn.JumpBack (pos 0))) in
       let begin : jump.target ≡ from = same_place (place start) jump.target from jump.placed r.0 in
       let later = on words place body p.0 q.0 q.1 in
-      by_source left _ (Evaluate condition) k (Loops condition stats ∷ k) env env cells cells from regs (begun s _ k env cells (ap out-StatKind h ∙ views.outs-While condition stats))
+      by_source left _ (Evaluate condition) k (Loops condition stats ∷ k) env env cells cells from regs
+      (begun s _ k env cells (ap out-StatKind h ∙ views.outs-While condition stats))
       (turns_same condition stats names from p.0 q.0 behind jump.by
       (condition_same names over condition cond code from p.0 behind p.1 q.2.1.0 (omega (arith, later)))
       (runs p.0 q.0 q.1)
@@ -425,11 +522,13 @@ module _ (words : List ℕ) (ks : List Constant) (place : ℕ → Option ℕ) wh
   -- what is to be shown of the rest, where the statements of a block are over
   abbrev pub AfterAll : ℕ → Environment → List StrId → List Frame → ℕ → Type 0
   AfterAll left env names k to =
-      (left' : ℕ) → left' ≤ left → (names' : List StrId) (env' : Environment) (cells : List Value) (regs : Registers) → Locals cells regs env' names' → Since env' names' env names → Same left' Done k env' cells to regs
+      (left' : ℕ) → left' ≤ left → (names' : List StrId) (env' : Environment) (cells : List Value) (regs : Registers) →
+      Locals cells regs env' names' → Since env' names' env names → Same left' Done k env' cells to regs
 
   abbrev pub StatementsRun : List Stat → List StrId → (from to : ℕ) → Type 0
   StatementsRun ss names from to =
-      (left : ℕ) (k : List Frame) (env : Environment) → AfterAll left env names k to → (cells : List Value) (regs : Registers) → Locals cells regs env names → Same left (ExecuteAll ss) k env cells from regs
+      (left : ℕ) (k : List Frame) (env : Environment) → AfterAll left env names k to → (cells : List Value) (regs : Registers) →
+      Locals cells regs env names → Same left (ExecuteAll ss) k env cells from regs
 
   -- at the end of a block its variables are forgotten
   as_block : (ss : List Stat) (names : List StrId) (from to : ℕ) → StatementsRun ss names from to → BlockRuns ss names from to
@@ -441,22 +540,28 @@ module _ (words : List ℕ) (ks : List Constant) (place : ℕ → Option ℕ) wh
       cells regs ls
 
   -- a statement without a new local
-  keeping : (left : ℕ) (env : Environment) (names : List StrId) (s : Stat) (l : StatLevel) (k : List Frame) (to : ℕ) → out-StatKind s.kind ≡ l → names_beyond l names ≡ names → Afterwards left env names (names_after names s) k to → Back left env names k to
+  keeping : (left : ℕ) (env : Environment) (names : List StrId) (s : Stat) (l : StatLevel) (k : List Frame) (to : ℕ) →
+      out-StatKind s.kind ≡ l → names_beyond l names ≡ names → Afterwards left env names (names_after names s) k to → Back left env names k to
   keeping left env names s l k to opens e go = unchanged left env names s k to (names_are names s l opens ∙ e) go
 
   mutual
-    statement_same : (names : List StrId) (s : Stat) (items : List Item) → IsStatementCode ks names s items → (from to : ℕ) → Reads words place from items to → (left : ℕ) (k : List Frame) (env : Environment) → Afterwards left env names (names_after names s) k to → (cells : List Value) (regs : Registers) → Locals cells regs env names → Same left (Execute s) k env cells from regs
+    statement_same : (names : List StrId) (s : Stat) (items : List Item) → IsStatementCode ks names s items → (from to : ℕ) →
+        Reads words place from items to → (left : ℕ) (k : List Frame) (env : Environment) →
+        Afterwards left env names (names_after names s) k to → (cells : List Value) (regs : Registers) → Locals cells regs env names →
+        Same left (Execute s) k env cells from regs
     statement_same _ _ _ (IsStatementCode.declares names s x e is h code) from to r left k env go cells regs ls =
         declare_same names s x e is h code from to r left k env go cells regs ls
     statement_same _ _ _ (IsStatementCode.assigns names s target e x reg is h t there code) from to r left k env go cells regs ls =
         assign_same names s target e x reg is h t there code from to r left k env go cells regs ls
-    statement_same _ _ _ (IsStatementCode.prints names s call is h free code) from to r left k env go cells regs ls =
-        print_same names s call is h free code from to r left k env (keeping left env names s _ k to (ap out-StatKind h ∙ views.outs-StatKind::Call call) refl go) cells regs ls
+    statement_same _ _ _ (IsStatementCode.prints names s call is h code) from to r left k env go cells regs ls =
+        print_same names s call is h code from to r left k env (keeping left env names s _ k to
+        (ap out-StatKind h ∙ views.outs-StatKind::Call call) refl go) cells regs ls
     statement_same _ _ _ (IsStatementCode.chooses names s arm over cond body h cond_code body_code) from to r left k env go cells regs ls =
         choose_same names s arm over cond body h cond_code from to r
         (λ from' to' r'. as_block (out-Arm arm).body names from' to' (statements_same names (out-Arm arm).body body body_code from' to' r'))
         left k env (keeping left env names s _ k to (ap out-StatKind h ∙ views.outs-StatKind::If (arm ∷ []) None) refl go) cells regs ls
-    statement_same _ _ _ (IsStatementCode.decides names s arm others to_other over cond body other h cond_code body_code other_code) from to r left k env go cells regs ls =
+    statement_same _ _ _ (IsStatementCode.decides names s arm others to_other over cond body other h cond_code body_code other_code) from
+        to r left k env go cells regs ls =
         decide_same names s arm others to_other over cond body other h cond_code from to r
         (λ from' to' r'. as_block (out-Arm arm).body names from' to' (statements_same names (out-Arm arm).body body body_code from' to' r'))
         (λ from' to' r'. as_block others names from' to' (statements_same names others other other_code from' to' r'))
@@ -466,7 +571,8 @@ module _ (words : List ℕ) (ks : List Constant) (place : ℕ → Option ℕ) wh
         (λ from' to' r'. as_block stats names from' to' (statements_same names stats body body_code from' to' r'))
         left k env (keeping left env names s _ k to (ap out-StatKind h ∙ views.outs-While condition stats) refl go) cells regs ls
 
-    pub statements_same : (names : List StrId) (ss : List Stat) (items : List Item) → IsBlockCode ks names ss items → (from to : ℕ) → Reads words place from items to → StatementsRun ss names from to
+    pub statements_same : (names : List StrId) (ss : List Stat) (items : List Item) → IsBlockCode ks names ss items → (from to : ℕ) →
+        Reads words place from items to → StatementsRun ss names from to
     statements_same _ _ _ (IsBlockCode.nothing names) from to r left k env go cells regs ls =
         by_source left _ Done k k env env cells cells from regs refl
         (at_place left _ k env cells from to regs r (go left (omega arith) names env cells regs ls (Since.unchanged env names)))
@@ -477,6 +583,7 @@ module _ (words : List ℕ) (ks : List Constant) (place : ℕ → Option ℕ) wh
         (λ left1 le1 env1 cells1 regs1 ls1 since1.
         by_source left1 _ (ExecuteAll ss) _ k env1 env1 cells1 cells1 p.0 regs1 refl
         (statements_same (names_after names s) ss js rest p.0 to p.2 left1 k env1
-        (λ left2 le2 names2 env2 cells2 regs2 ls2 since2. go left2 (omega (arith, le1, le2)) names2 env2 cells2 regs2 ls2 (since_on env2 names2 env1 (names_after names s) env names since2 since1))
+        (λ left2 le2 names2 env2 cells2 regs2 ls2 since2. go left2 (omega (arith, le1, le2)) names2 env2 cells2 regs2 ls2
+        (since_on env2 names2 env1 (names_after names s) env names since2 since1))
         cells1 regs1 ls1))
         cells regs ls)

@@ -82,15 +82,27 @@ branch_labels n j m test body t b =
       branches = branches-append m test (body ++ tail) (branches_more j m test b.rises t.branches) (branches-append m body tail b.branches tt);
     }
 
-pub branches_labels : (n j k m : ℕ) (test body other : List Item) → HasLabels (n + 2) j test → HasLabels j k body → HasLabels k m other → HasLabels n m (branches n (n + 1) test body other)
+pub branches_labels : (n j k m : ℕ) (test body other : List Item) → HasLabels (n + 2) j test → HasLabels j k body → HasLabels k m other →
+    HasLabels n m (branches n (n + 1) test body other)
 branches_labels n j k m test body other t b o =
     let last = item.Label (n + 1) ∷ [] in
     let tail = item.Branch (Jump (pos 0)) (n + 1) ∷ item.Label n ∷ (other ++ last) in
     record {
       rises = omega (arith, t.rises, b.rises, o.rises);
-      placed = λ l. omega (arith, placements-append test (body ++ tail) l, placements-append body tail l, placements-append other last l, t.placed l, b.placed l, o.placed l, one_more n l, next_more (n + 1) (n + 2) l (omega arith));
+      placed = λ l. omega (
+        arith,
+        placements-append test (body ++ tail) l,
+        placements-append body tail l,
+        placements-append other last l,
+        t.placed l,
+        b.placed l,
+        o.placed l,
+        one_more n l,
+        next_more (n + 1) (n + 2) l (omega arith),
+      );
       branches = branches-append m test (body ++ tail) (branches_more j m test (omega (arith, b.rises, o.rises)) t.branches)
-          (branches-append m body tail (branches_more k m body o.rises b.branches) (refl, omega (arith, t.rises, b.rises, o.rises), branches-append m other last o.branches tt));
+          (branches-append m body tail (branches_more k m body o.rises b.branches)
+          (refl, omega (arith, t.rises, b.rises, o.rises), branches-append m other last o.branches tt));
     }
 
 pub loop_labels : (n j m : ℕ) (test body : List Item) → HasLabels (n + 2) j test → HasLabels j m body → HasLabels n m (loop n (n + 1) test body)
@@ -98,7 +110,16 @@ loop_labels n j m test body t b =
     let tail = item.Branch (JumpBack (pos 0)) n ∷ item.Label (n + 1) ∷ [] in
     record {
       rises = omega (arith, t.rises, b.rises);
-      placed = λ l. omega (arith, placements-append test (body ++ tail) l, placements-append body tail l, t.placed l, b.placed l, one_more n l, next_more (n + 1) (n + 2) l (omega arith));
+      placed = λ l. omega (
+        arith,
+        placements-append test (body ++ tail) l,
+        placements-append body tail l,
+        t.placed l,
+        b.placed l,
+        one_more
+            n l,
+        next_more (n + 1) (n + 2) l (omega arith),
+      );
       branches = branches-append m test (body ++ tail) (branches_more j m test b.rises t.branches)
           (branches-append m body tail b.branches (refl, omega (arith, t.rises, b.rises), tt));
     }
@@ -122,7 +143,8 @@ once (item.Label m ∷ is) h =
     let here : one_if (nat_eq m m) ≡ 1 = ap one_if (eq-eqb m m refl) in
     (not_placed is m (omega (arith, h m)), once is (λ l. omega (arith, h l)))
 
-place_of : (m l from : ℕ) (t : Bool) (rest : ℕ) (later : Option ℕ) → nat_eq m l ≡ t → one_if (nat_eq m l) + rest ≡ 1 → (rest ≡ 1 → IsSome later) → IsSome (if nat_eq m l then Some from else later)
+place_of : (m l from : ℕ) (t : Bool) (rest : ℕ) (later : Option ℕ) → nat_eq m l ≡ t → one_if (nat_eq m l) + rest ≡ 1 →
+    (rest ≡ 1 → IsSome later) → IsSome (if nat_eq m l then Some from else later)
 place_of m l from true rest later e h some = rw e refl
 place_of m l from false rest later e h some =
     let none : one_if (nat_eq m l) ≡ 0 = ap one_if e in

@@ -1,3 +1,4 @@
+pub mod NewestNames
 pub mod Locals
 pub mod Reading
 pub mod Following
@@ -16,6 +17,6 @@ pub mod EmittedScripts
 pub mod NodeLevels
 pub mod Built
 pub mod BuiltNeeds
-pub mod BuiltSizes
+pub mod BuiltNames
+pub mod BuiltTrees
 pub mod BuiltBlocks
-pub mod BuiltForms

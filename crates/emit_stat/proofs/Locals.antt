@@ -12,7 +12,7 @@ use Rattle.built_values.specs.declared.value.Value.{Value}
 use Rattle.built_values.specs.declared.value.Value.TheVariants.{Nil}
 use Rattle.source_meaning.specs.States.{Environment, cell_of}
 use Rattle.machine_meaning.specs.States.{Registers, put}
-use Rattle.emit_stat.specs.Form.{register_of}
+use Rattle.emit_stat.proofs.NewestNames.{newest_register}
 
 -- ---- registers
 
@@ -37,7 +37,8 @@ IsApart c (v ∷ env) = (v.1 ≢ c) × IsApart c env
 -- the variables are these names, and each cell holds what its register does
 pub data Locals (cells : List Value) (regs : Registers) : Environment → List StrId → Type 0 where
   none : Locals cells regs [] []
-  one : (x : StrId) (c : ℕ) (env : Environment) (names : List StrId) → c < length cells → slice_index_or cells c Nil ≡ regs (length names) → IsApart c env → Locals cells regs env names → Locals cells regs ((x, c) ∷ env) (x ∷ names)
+  one : (x : StrId) (c : ℕ) (env : Environment) (names : List StrId) → c < length cells →
+      slice_index_or cells c Nil ≡ regs (length names) → IsApart c env → Locals cells regs env names → Locals cells regs ((x, c) ∷ env) (x ∷ names)
 
 -- the cell and the register of a local
 pub record Local (cells : List Value) (regs : Registers) (env : Environment) (x : StrId) (r : ℕ) : Type 0 where
@@ -46,10 +47,11 @@ pub record Local (cells : List Value) (regs : Registers) (env : Environment) (x 
   pub same : slice_index_or cells cell Nil ≡ regs r
 
 -- a local's register holds what its cell does
-pub read : (cells : List Value) (regs : Registers) (env : Environment) (names : List StrId) (x : StrId) (r : ℕ) → Locals cells regs env names → register_of names x ≡ Some r → Local cells regs env x r
+pub read : (cells : List Value) (regs : Registers) (env : Environment) (names : List StrId) (x : StrId) (r : ℕ) →
+    Locals cells regs env names → newest_register names x ≡ Some r → Local cells regs env x r
 read cells regs _ _ x r Locals.none h = cc
 read cells regs _ _ x r (Locals.one y c env names lt same apart ls) h =
-    either (nat_eq y.0 x.0) (Some (length names)) (register_of names x) (Some r) _
+    either (nat_eq y.0 x.0) (Some (length names)) (newest_register names x) (Some r) _
     (λ t there. record {
       cell = c;
       found = ap (λ b. if b then Some c else cell_of env x) t;
@@ -63,46 +65,53 @@ read cells regs _ _ x r (Locals.one y c env names lt same apart ls) h =
     h
 
 -- a name without a register has no cell
-pub read_none : (cells : List Value) (regs : Registers) (env : Environment) (names : List StrId) (x : StrId) → Locals cells regs env names → register_of names x ≡ None → cell_of env x ≡ None
+pub read_none : (cells : List Value) (regs : Registers) (env : Environment) (names : List StrId) (x : StrId) →
+    Locals cells regs env names → newest_register names x ≡ None → cell_of env x ≡ None
 read_none cells regs _ _ x Locals.none h = refl
 read_none cells regs _ _ x (Locals.one y c env names lt same apart ls) h =
-    either (nat_eq y.0 x.0) (Some (length names)) (register_of names x) None _
+    either (nat_eq y.0 x.0) (Some (length names)) (newest_register names x) None _
     (λ t there. cc)
     (λ t later. ap (λ b. if b then Some c else cell_of env x) t ∙ read_none cells regs env names x ls later)
     h
 
 -- a register above those of the locals is written
-pub locals_put : (cells : List Value) (regs : Registers) (env : Environment) (names : List StrId) (r : ℕ) (v : Value) → length names ≤ r → Locals cells regs env names → Locals cells (put regs r v) env names
+pub locals_put : (cells : List Value) (regs : Registers) (env : Environment) (names : List StrId) (r : ℕ) (v : Value) → length names ≤ r →
+    Locals cells regs env names → Locals cells (put regs r v) env names
 locals_put cells regs _ _ r v le Locals.none = Locals.none
 locals_put cells regs _ _ r v le (Locals.one x c env names lt same apart ls) =
     Locals.one x c env names lt (same ∙ sym (put_other regs r v (length names) (omega arith))) apart (locals_put cells regs env names r v (omega arith) ls)
 
 -- a new cell is added
-locals_append : (cells : List Value) (regs : Registers) (env : Environment) (names : List StrId) (v : Value) → Locals cells regs env names → Locals (cells ++ v ∷ []) regs env names
+locals_append : (cells : List Value) (regs : Registers) (env : Environment) (names : List StrId) (v : Value) →
+    Locals cells regs env names → Locals (cells ++ v ∷ []) regs env names
 locals_append cells regs _ _ v Locals.none = Locals.none
 locals_append cells regs _ _ v (Locals.one x c env names lt same apart ls) =
-    Locals.one x c env names (omega (arith, lt, length-append cells (v ∷ []))) (get_or-append cells (v ∷ []) Nil c lt ∙ same) apart (locals_append cells regs env names v ls)
+    Locals.one x c env names (omega (arith, lt, length-append cells (v ∷ []))) (get_or-append cells (v ∷ []) Nil c lt ∙ same) apart
+    (locals_append cells regs env names v ls)
 
 new_apart : (cells : List Value) (regs : Registers) (env : Environment) (names : List StrId) → Locals cells regs env names → IsApart (length cells) env
 new_apart cells regs _ _ Locals.none = tt
 new_apart cells regs _ _ (Locals.one x c env names lt same apart ls) = ((λ e. omega (arith, lt, e)), new_apart cells regs env names ls)
 
 -- a local is declared, whose value is in the first register above
-pub locals_declare : (cells : List Value) (regs : Registers) (env : Environment) (names : List StrId) (x : StrId) (v : Value) → regs (length names) ≡ v → Locals cells regs env names → Locals (cells ++ v ∷ []) regs ((x, length cells) ∷ env) (x ∷ names)
+pub locals_declare : (cells : List Value) (regs : Registers) (env : Environment) (names : List StrId) (x : StrId) (v : Value) →
+    regs (length names) ≡ v → Locals cells regs env names → Locals (cells ++ v ∷ []) regs ((x, length cells) ∷ env) (x ∷ names)
 locals_declare cells regs env names x v h ls =
-    Locals.one x (length cells) env names (omega (arith, length-append cells (v ∷ []))) (get_or-append_seam cells v [] Nil ∙ sym h) (new_apart cells regs env names ls) (locals_append cells regs env names v ls)
+    Locals.one x (length cells) env names (omega (arith, length-append cells (v ∷ []))) (get_or-append_seam cells v [] Nil ∙ sym h)
+    (new_apart cells regs env names ls) (locals_append cells regs env names v ls)
 
 -- the registers of locals are below those above
-pub register_below : (names : List StrId) (x : StrId) (r : ℕ) → register_of names x ≡ Some r → r < length names
+pub register_below : (names : List StrId) (x : StrId) (r : ℕ) → newest_register names x ≡ Some r → r < length names
 register_below [] x r h = cc
 register_below (y ∷ ys) x r h =
-    either (nat_eq y.0 x.0) (Some (length ys)) (register_of ys x) (Some r) _
+    either (nat_eq y.0 x.0) (Some (length ys)) (newest_register ys x) (Some r) _
     (λ t there. let e = same_Some (length ys) r there in omega (arith, e))
     (λ t later. let below = register_below ys x r later in omega (arith, below))
     h
 
 -- another cell and a register above are written
-locals_apart : (cells : List Value) (regs : Registers) (env : Environment) (names : List StrId) (c r : ℕ) (v : Value) → length names ≤ r → IsApart c env → Locals cells regs env names → Locals (slice_set cells c v) (put regs r v) env names
+locals_apart : (cells : List Value) (regs : Registers) (env : Environment) (names : List StrId) (c r : ℕ) (v : Value) → length names ≤ r →
+    IsApart c env → Locals cells regs env names → Locals (slice_set cells c v) (put regs r v) env names
 locals_apart cells regs _ _ c r v le a Locals.none = Locals.none
 locals_apart cells regs _ _ c r v le a (Locals.one x d env names lt same apart ls) =
     Locals.one x d env names
@@ -120,16 +129,18 @@ apart_at (w ∷ env) c x d a h =
     h
 
 -- a local is assigned, in its cell and in its register
-pub locals_assign : (cells : List Value) (regs : Registers) (env : Environment) (names : List StrId) (x : StrId) (c r : ℕ) (v : Value) → cell_of env x ≡ Some c → register_of names x ≡ Some r → Locals cells regs env names → Locals (slice_set cells c v) (put regs r v) env names
+pub locals_assign : (cells : List Value) (regs : Registers) (env : Environment) (names : List StrId) (x : StrId) (c r : ℕ) (v : Value) →
+    cell_of env x ≡ Some c → newest_register names x ≡ Some r → Locals cells regs env names → Locals (slice_set cells c v) (put regs r v) env names
 locals_assign cells regs _ _ x c r v found there Locals.none = cc
 locals_assign cells regs _ _ x c r v found there (Locals.one y d env names lt same apart ls) =
-    either (nat_eq y.0 x.0) (Some (length names)) (register_of names x) (Some r) _
+    either (nat_eq y.0 x.0) (Some (length names)) (newest_register names x) (Some r) _
     (λ t here.
     let cell : d ≡ c = same_Some d c (ap (λ b. if b then Some d else cell_of env x) (sym t) ∙ found) in
     let register : length names ≡ r = same_Some (length names) r here in
     Locals.one y d env names
     (omega (arith, lt, length-set cells c v))
-    (ap (λ q. slice_index_or (slice_set cells q v) d Nil) (sym cell) ∙ get_or-set_same cells d v Nil lt ∙ sym (put_same regs (length names) v) ∙ ap (λ q. put regs q v (length names)) register)
+    (ap (λ q. slice_index_or (slice_set cells q v) d Nil) (sym cell) ∙ get_or-set_same cells d v Nil lt ∙ sym
+    (put_same regs (length names) v) ∙ ap (λ q. put regs q v (length names)) register)
     apart
     (locals_apart cells regs env names c r v (omega (arith, register)) (subst (λ q. IsApart q env) cell apart) ls))
     (λ t later.
@@ -149,7 +160,8 @@ pub data Temporaries (regs : Registers) (base : ℕ) : List Value → Type 0 whe
   none : Temporaries regs base []
   one : (v : Value) (vs : List Value) → regs (base + length vs) ≡ v → Temporaries regs base vs → Temporaries regs base (v ∷ vs)
 
-pub temporaries_put : (regs : Registers) (base : ℕ) (vs : List Value) (r : ℕ) (v : Value) → base + length vs ≤ r → Temporaries regs base vs → Temporaries (put regs r v) base vs
+pub temporaries_put : (regs : Registers) (base : ℕ) (vs : List Value) (r : ℕ) (v : Value) → base + length vs ≤ r →
+    Temporaries regs base vs → Temporaries (put regs r v) base vs
 temporaries_put regs base _ r v le Temporaries.none = Temporaries.none
 temporaries_put regs base _ r v le (Temporaries.one w vs h ts) =
     Temporaries.one w vs (put_other regs r v (base + length vs) (omega arith) ∙ h) (temporaries_put regs base vs r v (omega arith) ts)
@@ -161,19 +173,24 @@ pub record Fits (cells : List Value) (regs : Registers) (env : Environment) (nam
   pub temporaries : Temporaries regs (length names) temps
 
 -- one more temporary, in the first free register
-pub fits_push : (cells : List Value) (regs : Registers) (env : Environment) (names : List StrId) (temps : List Value) (to : ℕ) (v : Value) → length names + length temps ≡ to → Fits cells regs env names temps → Fits cells (put regs to v) env names (v ∷ temps)
+pub fits_push : (cells : List Value) (regs : Registers) (env : Environment) (names : List StrId) (temps : List Value) (to : ℕ) (v : Value)
+    → length names + length temps ≡ to → Fits cells regs env names temps → Fits cells (put regs to v) env names (v ∷ temps)
 fits_push cells regs env names temps to v e f = record {
   locals = locals_put cells regs env names to v (omega (arith, e)) f.locals;
-  temporaries = Temporaries.one v temps (ap (put regs to v) e ∙ put_same regs to v) (temporaries_put regs (length names) temps to v (omega (arith, e)) f.temporaries);
+  temporaries = Temporaries.one v temps (ap (put regs to v) e ∙ put_same regs to v)
+      (temporaries_put regs (length names) temps to v (omega (arith, e)) f.temporaries);
 }
 
-newest_at : (regs : Registers) (base : ℕ) (v : Value) (vs : List Value) → Temporaries regs base (v ∷ vs) → (regs (base + length vs) ≡ v) × Temporaries regs base vs
+newest_at : (regs : Registers) (base : ℕ) (v : Value) (vs : List Value) → Temporaries regs base (v ∷ vs) →
+    (regs (base + length vs) ≡ v) × Temporaries regs base vs
 newest_at regs base v vs (Temporaries.one _ _ h ts) = (h, ts)
 
-pub fits_pop : (cells : List Value) (regs : Registers) (env : Environment) (names : List StrId) (v : Value) (temps : List Value) → Fits cells regs env names (v ∷ temps) → Fits cells regs env names temps
+pub fits_pop : (cells : List Value) (regs : Registers) (env : Environment) (names : List StrId) (v : Value) (temps : List Value) →
+    Fits cells regs env names (v ∷ temps) → Fits cells regs env names temps
 fits_pop cells regs env names v temps f = record { locals = f.locals; temporaries = (newest_at regs (length names) v temps f.temporaries).1 }
 
-pub fits_newest : (cells : List Value) (regs : Registers) (env : Environment) (names : List StrId) (v : Value) (temps : List Value) → Fits cells regs env names (v ∷ temps) → regs (length names + length temps) ≡ v
+pub fits_newest : (cells : List Value) (regs : Registers) (env : Environment) (names : List StrId) (v : Value) (temps : List Value) →
+    Fits cells regs env names (v ∷ temps) → regs (length names + length temps) ≡ v
 fits_newest cells regs env names v temps f = (newest_at regs (length names) v temps f.temporaries).0
 
 -- ---- the variables of a block
@@ -181,7 +198,8 @@ fits_newest cells regs env names v temps f = (newest_at regs (length names) v te
 -- variables that were declared since
 pub data Since : Environment → List StrId → Environment → List StrId → Type 0 where
   unchanged : (env : Environment) (names : List StrId) → Since env names env names
-  one : (x : StrId) (c : ℕ) (env : Environment) (names : List StrId) (env0 : Environment) (names0 : List StrId) → Since env names env0 names0 → Since ((x, c) ∷ env) (x ∷ names) env0 names0
+  one : (x : StrId) (c : ℕ) (env : Environment) (names : List StrId) (env0 : Environment) (names0 : List StrId) →
+      Since env names env0 names0 → Since ((x, c) ∷ env) (x ∷ names) env0 names0
 
 abbrev TailFits : List Value → Registers → Environment → List StrId → Type 0
 TailFits cells regs (v ∷ env) (x ∷ names) = Locals cells regs env names
@@ -192,12 +210,14 @@ locals_tail cells regs _ _ Locals.none = tt
 locals_tail cells regs _ _ (Locals.one x c env names lt same apart ls) = ls
 
 -- they are forgotten
-pub locals_before : (cells : List Value) (regs : Registers) (env : Environment) (names : List StrId) (env0 : Environment) (names0 : List StrId) → Since env names env0 names0 → Locals cells regs env names → Locals cells regs env0 names0
+pub locals_before : (cells : List Value) (regs : Registers) (env : Environment) (names : List StrId) (env0 : Environment)
+    (names0 : List StrId) → Since env names env0 names0 → Locals cells regs env names → Locals cells regs env0 names0
 locals_before cells regs _ _ _ _ (Since.unchanged env names) ls = ls
 locals_before cells regs _ _ _ _ (Since.one x c env names env0 names0 s) ls =
     locals_before cells regs env names env0 names0 s (locals_tail cells regs ((x, c) ∷ env) (x ∷ names) ls)
 
-pub since_on : (env2 : Environment) (names2 : List StrId) (env1 : Environment) (names1 : List StrId) (env0 : Environment) (names0 : List StrId) → Since env2 names2 env1 names1 → Since env1 names1 env0 names0 → Since env2 names2 env0 names0
+pub since_on : (env2 : Environment) (names2 : List StrId) (env1 : Environment) (names1 : List StrId) (env0 : Environment)
+    (names0 : List StrId) → Since env2 names2 env1 names1 → Since env1 names1 env0 names0 → Since env2 names2 env0 names0
 since_on _ _ _ _ env0 names0 (Since.unchanged env names) t = t
 since_on _ _ env1 names1 env0 names0 (Since.one x c env names _ _ s) t =
     Since.one x c env names env0 names0 (since_on env names env1 names1 env0 names0 s t)

@@ -50,15 +50,18 @@ module _ {K L M A E X F B S : Type 0} (s : Steps K L M A E X F B S) where
   kind_is : (k : ExprKind) → at_kind k ≡ s.kind (kind_level (out-ExprKind k))
   kind_is k =
       let same : roll-ExprKind (out-ExprKind k) ≡ k = search (rules, folds.the_lemmas, views.the_lemmas) in
-      ap at_kind (sym same) ∙ folds.fold-roll-ExprKind K L M A E X F B S s.kind s.field_kind s.stat_kind s.arm s.expr s.expr_arm s.field s.func s.stat (out-ExprKind k)
+      ap at_kind (sym same) ∙ folds.fold-roll-ExprKind K L M A E X F B S s.kind s.field_kind s.stat_kind s.arm s.expr s.expr_arm s.field
+      s.func s.stat (out-ExprKind k)
 
   stat_kind_is : (k : StatKind) → at_stat_kind k ≡ s.stat_kind (stat_kind_level (out-StatKind k))
   stat_kind_is k =
       let same : roll-StatKind (out-StatKind k) ≡ k = search (rules, folds.the_lemmas, views.the_lemmas) in
-      ap at_stat_kind (sym same) ∙ folds.fold-roll-StatKind K L M A E X F B S s.kind s.field_kind s.stat_kind s.arm s.expr s.expr_arm s.field s.func s.stat (out-StatKind k)
+      ap at_stat_kind (sym same) ∙ folds.fold-roll-StatKind K L M A E X F B S s.kind s.field_kind s.stat_kind s.arm s.expr s.expr_arm
+      s.field s.func s.stat (out-StatKind k)
 
   -- ---- expressions
-  pub of_kind : (e : Expr) (l : ExprKindNode) → out-ExprKind e.kind ≡ l → at_expr s e ≡ s.expr (record { id = e.id; at = e.at; line = e.line; kind = s.kind (kind_level l) })
+  pub of_kind : (e : Expr) (l : ExprKindNode) → out-ExprKind e.kind ≡ l →
+      at_expr s e ≡ s.expr (record { id = e.id; at = e.at; line = e.line; kind = s.kind (kind_level l) })
   of_kind e l h =
       folds.fold-roll-Expr K L M A E X F B S s.kind s.field_kind s.stat_kind s.arm s.expr s.expr_arm s.field s.func s.stat (out-Expr e)
       ∙ ap (λ (k : K). s.expr (record { id = e.id; at = e.at; line = e.line; kind = k })) (kind_is e.kind ∙ ap (λ (x : ExprKindNode). s.kind (kind_level x)) h)
@@ -66,34 +69,50 @@ module _ {K L M A E X F B S : Type 0} (s : Steps K L M A E X F B S) where
   pub of_number : (e : Expr) (v : ℤ) → e.kind ≡ expr.Num v → at_expr s e ≡ s.expr (record { id = e.id; at = e.at; line = e.line; kind = s.kind (level.Num v) })
   of_number e v h = of_kind e (level.Num v) (ap out-ExprKind h ∙ views.outs-Num v)
 
-  pub of_name : (e : Expr) (x : StrId) → e.kind ≡ expr.Name x → at_expr s e ≡ s.expr (record { id = e.id; at = e.at; line = e.line; kind = s.kind (level.Name x) })
+  pub of_name : (e : Expr) (x : StrId) → e.kind ≡ expr.Name x →
+      at_expr s e ≡ s.expr (record { id = e.id; at = e.at; line = e.line; kind = s.kind (level.Name x) })
   of_name e x h = of_kind e (level.Name x) (ap out-ExprKind h ∙ views.outs-Name x)
 
-  pub of_binary : (e a b : Expr) (op : BinOp) → e.kind ≡ expr.Binary op a b → at_expr s e ≡ s.expr (record { id = e.id; at = e.at; line = e.line; kind = s.kind (level.Binary op (at_expr s a) (at_expr s b)) })
+  pub of_binary : (e a b : Expr) (op : BinOp) → e.kind ≡ expr.Binary op a b →
+      at_expr s e ≡ s.expr (record { id = e.id; at = e.at; line = e.line; kind = s.kind (level.Binary op (at_expr s a) (at_expr s b)) })
   of_binary e a b op h = of_kind e (level.Binary op a b) (ap out-ExprKind h ∙ views.outs-Binary op a b)
 
-  pub of_call : (e f : Expr) (es : List Expr) → e.kind ≡ expr.Call f es → at_expr s e ≡ s.expr (record { id = e.id; at = e.at; line = e.line; kind = s.kind (level.ExprKind::Call (at_expr s f) (map (at_expr s) es)) })
+  pub of_call : (e f : Expr) (es : List Expr) → e.kind ≡ expr.Call f es →
+      at_expr s e ≡ s.expr (record { id = e.id; at = e.at; line = e.line; kind = s.kind (level.ExprKind::Call (at_expr s f) (map (at_expr s) es)) })
   of_call e f es h = of_kind e (level.ExprKind::Call f es) (ap out-ExprKind h ∙ views.outs-ExprKind::Call f es)
 
   -- ---- statements
-  pub of_stat_kind : (t : Stat) (l : StatKindNode) → out-StatKind t.kind ≡ l → at_stat s t ≡ s.stat (record { id = t.id; at = t.at; line = t.line; kind = s.stat_kind (stat_kind_level l) })
+  pub of_stat_kind : (t : Stat) (l : StatKindNode) → out-StatKind t.kind ≡ l →
+      at_stat s t ≡ s.stat (record { id = t.id; at = t.at; line = t.line; kind = s.stat_kind (stat_kind_level l) })
   of_stat_kind t l h =
       folds.fold-roll-Stat K L M A E X F B S s.kind s.field_kind s.stat_kind s.arm s.expr s.expr_arm s.field s.func s.stat (out-Stat t)
-      ∙ ap (λ (k : M). s.stat (record { id = t.id; at = t.at; line = t.line; kind = k })) (stat_kind_is t.kind ∙ ap (λ (x : StatKindNode). s.stat_kind (stat_kind_level x)) h)
+      ∙ ap (λ (k : M). s.stat (record { id = t.id; at = t.at; line = t.line; kind = k }))
+      (stat_kind_is t.kind ∙ ap (λ (x : StatKindNode). s.stat_kind (stat_kind_level x)) h)
 
-  pub of_local : (t : Stat) (xs : List StrId) (es : List Expr) → t.kind ≡ stat.Local xs es → at_stat s t ≡ s.stat (record { id = t.id; at = t.at; line = t.line; kind = s.stat_kind (level.Local xs (map (at_expr s) es)) })
+  pub of_local : (t : Stat) (xs : List StrId) (es : List Expr) → t.kind ≡ stat.Local xs es →
+      at_stat s t ≡ s.stat (record { id = t.id; at = t.at; line = t.line; kind = s.stat_kind (level.Local xs (map (at_expr s) es)) })
   of_local t xs es h = of_stat_kind t (level.Local xs es) (ap out-StatKind h ∙ views.outs-Local xs es)
 
-  pub of_assignment : (t : Stat) (ts es : List Expr) → t.kind ≡ stat.Assign ts es → at_stat s t ≡ s.stat (record { id = t.id; at = t.at; line = t.line; kind = s.stat_kind (level.Assign (map (at_expr s) ts) (map (at_expr s) es)) })
+  pub of_assignment : (t : Stat) (ts es : List Expr) → t.kind ≡ stat.Assign ts es →
+      at_stat s t ≡ s.stat (record {
+        id = t.id;
+        at = t.at;
+        line = t.line;
+        kind = s.stat_kind
+            (level.Assign (map (at_expr s) ts) (map (at_expr s) es));
+      })
   of_assignment t ts es h = of_stat_kind t (level.Assign ts es) (ap out-StatKind h ∙ views.outs-Assign ts es)
 
-  pub of_call_statement : (t : Stat) (call : Expr) → t.kind ≡ stat.Call call → at_stat s t ≡ s.stat (record { id = t.id; at = t.at; line = t.line; kind = s.stat_kind (level.StatKind::Call (at_expr s call)) })
+  pub of_call_statement : (t : Stat) (call : Expr) → t.kind ≡ stat.Call call →
+      at_stat s t ≡ s.stat (record { id = t.id; at = t.at; line = t.line; kind = s.stat_kind (level.StatKind::Call (at_expr s call)) })
   of_call_statement t call h = of_stat_kind t (level.StatKind::Call call) (ap out-StatKind h ∙ views.outs-StatKind::Call call)
 
-  pub of_branch : (t : Stat) (arms : List Arm) (other : Option (List Stat)) → t.kind ≡ stat.If arms other → at_stat s t ≡ s.stat (record { id = t.id; at = t.at; line = t.line; kind = s.stat_kind (stat_kind_level (level.StatKind::If arms other)) })
+  pub of_branch : (t : Stat) (arms : List Arm) (other : Option (List Stat)) → t.kind ≡ stat.If arms other →
+      at_stat s t ≡ s.stat (record { id = t.id; at = t.at; line = t.line; kind = s.stat_kind (stat_kind_level (level.StatKind::If arms other)) })
   of_branch t arms other h = of_stat_kind t (level.StatKind::If arms other) (ap out-StatKind h ∙ views.outs-StatKind::If arms other)
 
-  pub of_loop : (t : Stat) (cond : Expr) (body : List Stat) → t.kind ≡ stat.While cond body → at_stat s t ≡ s.stat (record { id = t.id; at = t.at; line = t.line; kind = s.stat_kind (level.While (at_expr s cond) (map (at_stat s) body)) })
+  pub of_loop : (t : Stat) (cond : Expr) (body : List Stat) → t.kind ≡ stat.While cond body →
+      at_stat s t ≡ s.stat (record { id = t.id; at = t.at; line = t.line; kind = s.stat_kind (level.While (at_expr s cond) (map (at_stat s) body)) })
   of_loop t cond body h = of_stat_kind t (level.While cond body) (ap out-StatKind h ∙ views.outs-While cond body)
 
   -- ---- conditions with their blocks, and functions
@@ -102,7 +121,9 @@ module _ {K L M A E X F B S : Type 0} (s : Steps K L M A E X F B S) where
       let same : roll-Arm (out-Arm a) ≡ a = search (rules, folds.the_lemmas, views.the_lemmas) in
       ap (at_arm s) (sym same) ∙ folds.fold-roll-Arm K L M A E X F B S s.kind s.field_kind s.stat_kind s.arm s.expr s.expr_arm s.field s.func s.stat (out-Arm a)
 
-  pub of_function : (f : FuncBody) → let o = out-FuncBody f in at_func s f ≡ s.func (record { id = o.id; at = o.at; line = o.line; params = o.params; vararg = o.vararg; body = map (at_stat s) o.body })
+  pub of_function : (f : FuncBody) → let o = out-FuncBody f in at_func s f ≡ s.func
+      (record { id = o.id; at = o.at; line = o.line; params = o.params; vararg = o.vararg; body = map (at_stat s) o.body })
   of_function f =
       let same : roll-FuncBody (out-FuncBody f) ≡ f = search (rules, folds.the_lemmas, views.the_lemmas) in
-      ap (at_func s) (sym same) ∙ folds.fold-roll-FuncBody K L M A E X F B S s.kind s.field_kind s.stat_kind s.arm s.expr s.expr_arm s.field s.func s.stat (out-FuncBody f)
+      ap (at_func s) (sym same) ∙ folds.fold-roll-FuncBody K L M A E X F B S s.kind s.field_kind s.stat_kind s.arm s.expr s.expr_arm
+      s.field s.func s.stat (out-FuncBody f)

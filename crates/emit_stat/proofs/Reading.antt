@@ -58,7 +58,8 @@ reads_jump words at i to fit j =
     }
 
 -- what stands in the code is read
-pub reads : (words : List ℕ) (place : ℕ → Option ℕ) (from : ℕ) (items : List Item) (to : ℕ) → AllFit items → Stands words place from items to → Reads words place from items to
+pub reads : (words : List ℕ) (place : ℕ → Option ℕ) (from : ℕ) (items : List Item) (to : ℕ) → AllFit items →
+    Stands words place from items to → Reads words place from items to
 reads words place from [] to fit st = st
 reads words place from (Insn i ∷ is) to fit st =
     (insn_at-stands words from i fit.0 st.0, reads words place (from + length (encoded i)) is to fit.1 st.1)
@@ -67,7 +68,8 @@ reads words place from (Branch i l ∷ is) to fit st =
 reads words place from (Label l ∷ is) to fit st = (st.0, reads words place from is to fit st.1)
 
 -- the first items of a list, and the others
-pub split : (words : List ℕ) (place : ℕ → Option ℕ) (a b : List Item) (from to : ℕ) → Reads words place from (a ++ b) to → (mid : ℕ) × Reads words place from a mid × Reads words place mid b to
+pub split : (words : List ℕ) (place : ℕ → Option ℕ) (a b : List Item) (from to : ℕ) → Reads words place from (a ++ b) to →
+    (mid : ℕ) × Reads words place from a mid × Reads words place mid b to
 split words place [] b from to r = (from, refl, r)
 split words place (Insn i ∷ a) b from to r =
     let s = split words place a b (from + length (encoded i)) to r.1 in (s.0, (r.0, s.1), s.2)
@@ -77,7 +79,8 @@ split words place (Label l ∷ a) b from to r =
     let s = split words place a b from to r.1 in (s.0, (r.0, s.1), s.2)
 
 -- the first of some instructions, and the others
-pub split_insns : (words : List ℕ) (place : ℕ → Option ℕ) (a b : List Instruction) (from to : ℕ) → Reads words place from (map Insn (a ++ b)) to → (mid : ℕ) × Reads words place from (map Insn a) mid × Reads words place mid (map Insn b) to
+pub split_insns : (words : List ℕ) (place : ℕ → Option ℕ) (a b : List Instruction) (from to : ℕ) →
+    Reads words place from (map Insn (a ++ b)) to → (mid : ℕ) × Reads words place from (map Insn a) mid × Reads words place mid (map Insn b) to
 split_insns words place [] b from to r = (from, refl, r)
 split_insns words place (i ∷ a) b from to r =
     let s = split_insns words place a b (from + length (encoded i)) to r.1 in (s.0, (r.0, s.1), s.2)

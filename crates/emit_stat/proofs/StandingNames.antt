@@ -14,8 +14,9 @@ use Rattle.syntax_tree.specs.Numbers.{numbered}
 use Rattle.syntax_tree.specs.Scope.{look, unless_later, bound_in}
 use Rattle.scope_laws.specs.Sight.{Part, expr}
 use Rattle.scope_laws.proofs.Seen.{names_in_scope}
-use Rattle.emit_stat.specs.Form.{register_of}
+use Rattle.emit_stat.specs.Names.{register_of}
 use Rattle.emit_stat.specs.Standing.{entry, bound_at, names_of, AreBelow, Stand, StandsAt, register_at, register_bound}
+use Rattle.emit_stat.proofs.NewestNames.{newest, look_last, newest_register, newest_first}
 
 same_some : {n m : ℕ} → Some n ≡ Some m → n ≡ m
 same_some h = search rules
@@ -46,23 +47,6 @@ name_bound b vs e after x s k =
 
 -- ---- looking up
 
-abbrev newest : Bool → ℕ → Option ℕ → Option ℕ
-newest same local older = if same then Some local else older
-
-later_newest : (same older : Bool) (local n : ℕ) (o : Option ℕ) → unless_later older n (newest same local o) ≡ newest same local (unless_later older n o)
-later_newest true older local n o = refl
-later_newest false older local n o = refl
-
-only_newest : (same : Bool) (local : ℕ) → unless_later same local None ≡ newest same local None
-only_newest true local = refl
-only_newest false local = refl
-
-look_last : (x : StrId) (v : Visible) (ws : List Visible) → look x (ws ++ v ∷ []) ≡ newest (v.name.0 == x.0) v.local (look x ws)
-look_last x v [] = only_newest (v.name.0 == x.0) v.local
-look_last x v (w ∷ ws) =
-    ap (unless_later (w.name.0 == x.0) w.local) (look_last x v ws)
-    ∙ later_newest (v.name.0 == x.0) (w.name.0 == x.0) v.local w.local (look x ws)
-
 pub look_first : (x : StrId) (v : Visible) (vs : List Visible) → look x (reverse (v ∷ vs)) ≡ newest (v.name.0 == x.0) v.local (look x (reverse vs))
 look_first x v vs = ap (look x) (reverse-append (v ∷ []) vs) ∙ look_last x v (reverse vs)
 
@@ -75,11 +59,11 @@ found_by : (same : Bool) (local register : ℕ) (o r : Option ℕ) → SameFound
 found_by true local register o r h = record { none = λ e. absurd (no_none e); some = λ k e. refl }
 found_by false local register o r h = h
 
-pub look_register : (x : StrId) (vs : List Visible) → SameFound (look x (reverse vs)) (register_of (names_of vs) x)
+pub look_register : (x : StrId) (vs : List Visible) → SameFound (look x (reverse vs)) (newest_register (names_of vs) x)
 look_register x [] = record { none = λ e. refl; some = λ k e. absurd (no_some e) }
 look_register x (v ∷ vs) =
-    subst (λ o. SameFound o (register_of (names_of (v ∷ vs)) x)) (sym (look_first x v vs))
-    (found_by (v.name.0 == x.0) v.local (length (names_of vs)) (look x (reverse vs)) (register_of (names_of vs) x) (look_register x vs))
+    subst (λ o. SameFound o (newest_register (names_of (v ∷ vs)) x)) (sym (look_first x v vs))
+    (found_by (v.name.0 == x.0) v.local (length (names_of vs)) (look x (reverse vs)) (newest_register (names_of vs) x) (look_register x vs))
 
 -- what a name's binding says of its register
 pub is_registered : (o r : Option ℕ) (k : ℕ) → SameFound o r → Some (bound_in 0 o) ≡ Some (variant.Local k) → IsSome r
@@ -108,22 +92,22 @@ look_below x n (v ∷ vs) k h e = by (v.name.0 == x.0) (sym (look_first x v vs) 
 
 -- the register of a name is that of the local for which it stands
 pub registers_same : (x : StrId) (n : ℕ) (vs : List Visible) (k : ℕ) → AreBelow n vs → look x (reverse vs) ≡ Some k →
-    register_of (names_of vs) x ≡ register_at vs k
+    newest_register (names_of vs) x ≡ register_at vs k
 registers_same x n [] k h e = absurd (no_some e)
 registers_same x n (v ∷ vs) k h e = by (v.name.0 == x.0) refl (sym (look_first x v vs) ∙ e) (registers_same x v.local vs k h.1) (look_below x
     v.local vs k h.1) where
       by : (b : Bool) → (v.name.0 == x.0) ≡ b → newest b v.local (look x (reverse vs)) ≡ Some k →
-          (look x (reverse vs) ≡ Some k → register_of (names_of vs) x ≡ register_at vs k) → (look x (reverse vs) ≡ Some k → k < v.local) →
-          register_of (names_of (v ∷ vs)) x ≡ register_at (v ∷ vs) k
+          (look x (reverse vs) ≡ Some k → newest_register (names_of vs) x ≡ register_at vs k) → (look x (reverse vs) ≡ Some k → k < v.local) →
+          newest_register (names_of (v ∷ vs)) x ≡ register_at (v ∷ vs) k
       by true is e same lower =
-          ap (λ b. if b then Some (length (names_of vs)) else register_of (names_of vs) x) is
+          ap (λ b. if b then Some (length (names_of vs)) else newest_register (names_of vs) x) is
           ∙ sym (ap (λ b. if b then Some (length (names_of vs)) else register_at vs k) (eq-eqb v.local k (same_some e)))
       by false is e same lower =
-          ap (λ b. if b then Some (length (names_of vs)) else register_of (names_of vs) x) is ∙ same e
+          ap (λ b. if b then Some (length (names_of vs)) else newest_register (names_of vs) x) is ∙ same e
           ∙ sym (ap (λ b. if b then Some (length (names_of vs)) else register_at vs k) (ne_eqb v.local k (λ z. omega (arith, z, lower e))))
 
 bound_register : (x : StrId) (n : ℕ) (vs : List Visible) (o : Option ℕ) → AreBelow n vs → look x (reverse vs) ≡ o →
-    register_bound vs (Some (bound_in 0 o)) ≡ register_of (names_of vs) x
+    register_bound vs (Some (bound_in 0 o)) ≡ newest_register (names_of vs) x
 bound_register x n vs None h e = sym ((look_register x vs).none e)
 bound_register x n vs (Some k) h e = ap (register_bound vs) (in_main k) ∙ sym (registers_same x n vs k h e)
 
@@ -131,4 +115,4 @@ pub name_register : (b : Bindings) (vs : List Visible) (e : Expr) (x : StrId) �
     register_bound vs (bound_at b e.id) ≡ register_of (names_of vs) x
 name_register b vs e x s k =
     ap (register_bound vs) (name_bound b vs e s.0 x s.1 k)
-    ∙ bound_register x s.1.sight.declared vs (look x (reverse vs)) s.1.below refl
+    ∙ bound_register x s.1.sight.declared vs (look x (reverse vs)) s.1.below refl ∙ sym (newest_first (names_of vs) x)

@@ -17,10 +17,10 @@ use Rattle.syntax_tree.specs.declared.tree.StatKind as stat_kind
 use Rattle.syntax_tree.specs.Lists.{or_zero}
 use Rattle.syntax_tree.specs.Numbers.{numbered}
 use Rattle.scope_laws.specs.Declares.{steps, declares_stat}
-use Rattle.scope_laws.specs.Sight.{Sight, Part, ExprLevel, StatLevel, expr, stat, arm, block, shows, stat_shows, behind, visible, else_block, expr_parts, in_stat, in_part, Sees, next, enter}
+use Rattle.scope_laws.specs.Sight.{Sight, Part, ExprLevel, StatLevel, expr, stat, arm, block, shows, stat_shows, behind, visible, Inside, inside, else_block, expr_parts, in_stat, in_part, Sees, next, enter}
 use Rattle.scope_laws.proofs.Levels.{at_stat_level, stat_is, stat_kind_is}
 use Rattle.scope_laws.proofs.Seen.{nodes_have_firsts}
-use Rattle.emit_stat.specs.Form.{names_after, names_beyond}
+use Rattle.emit_stat.specs.Names.{names_after, names_beyond}
 use Rattle.emit_stat.specs.Standing.{first_at, names_of, scope_after, AreBelow, Stand, StandsAt}
 
 -- ---- numbers of locals
@@ -40,7 +40,7 @@ below_new n (x ∷ xs) vs h =
     below_more (n + 1 + length xs) (n + length (x ∷ xs)) (reverse (v ∷ visible (n + 1) xs) ++ vs) (omega arith) (subst (AreBelow (n + 1
     + length xs)) same more)
 
-visible_length : (n : ℕ) (xs : List StrId) → length (visible n xs) ≡ length xs
+pub visible_length : (n : ℕ) (xs : List StrId) → length (visible n xs) ≡ length xs
 visible_length n [] = refl
 visible_length n (x ∷ xs) = omega (arith, visible_length (n + 1) xs)
 
@@ -108,47 +108,39 @@ in_statement b vs x after l parts same are s h = record {
   below = below_more s.sight.declared (in_stat l s.sight).sight.declared vs (same.declared s.sight) s.below;
 }
 
+-- a statement that declares nothing before its parts
+pub in_quiet : (b : Bindings) (vs : List Visible) (x : Stat) (after : List Part) (l : StatLevel) (parts : List Part) →
+    ((s : Sight) → in_stat l s ≡ inside s parts) → Stand b vs (stat x ∷ after) → out-StatKind x.kind ≡ l → Stand b vs parts
+in_quiet b vs x after l parts same s k =
+    in_statement b vs x after l parts (record {
+      scope = λ s. ap (λ (i : Inside). i.sight.scope) (same s);
+      first = λ s. ap (λ (i : Inside). i.sight.first) (same s);
+      declared = λ s. let e = ap (λ (i : Inside). i.sight.declared) (same s) in omega (arith, e);
+    })
+    (λ s. ap (λ (i : Inside). i.parts) (same s)) s k
+
 pub in_local : (b : Bindings) (vs : List Visible) (x : Stat) (after : List Part) (xs : List StrId) (es : List Expr) →
-    Stand b vs (stat x ∷ after) → x.kind ≡ stat_kind.Local xs es → Stand b vs (map expr es)
+    Stand b vs (stat x ∷ after) → out-StatKind x.kind ≡ level.Local xs es → Stand b vs (map expr es)
 in_local b vs x after xs es s k =
     in_statement b vs x after (level.Local xs es) (map expr es) (record { scope = λ s. refl; first = λ s. refl; declared = λ s. omega arith })
-    (λ s. refl) s (ap out-StatKind k ∙ views.outs-Local xs es)
+    (λ s. refl) s k
 
 pub in_assignment : (b : Bindings) (vs : List Visible) (x : Stat) (after : List Part) (ts es : List Expr) → Stand b vs (stat x ∷ after) →
-    x.kind ≡ stat_kind.Assign ts es → Stand b vs (map expr ts ++ map expr es)
-in_assignment b vs x after ts es s k =
-    in_statement b vs x after (level.Assign ts es) (map expr ts ++ map expr es) (record {
-      scope = λ s. refl;
-      first = λ s. refl;
-      declared = λ
-          s. omega arith;
-    })
-    (λ s. refl) s (ap out-StatKind k ∙ views.outs-Assign ts es)
+    out-StatKind x.kind ≡ level.Assign ts es → Stand b vs (map expr ts ++ map expr es)
+in_assignment b vs x after ts es s k = in_quiet b vs x after (level.Assign ts es) (map expr ts ++ map expr es) (λ s. refl) s k
 
 pub in_call_statement : (b : Bindings) (vs : List Visible) (x : Stat) (after : List Part) (call : Expr) → Stand b vs (stat x ∷ after) →
-    x.kind ≡ stat_kind.Call call → Stand b vs (expr call ∷ [])
-in_call_statement b vs x after call s k =
-    in_statement b vs x after (level.StatKind::Call call) (expr call ∷ []) (record {
-      scope = λ s. refl;
-      first = λ s. refl;
-      declared = λ
-          s. omega arith;
-    })
-    (λ s. refl) s (ap out-StatKind k ∙ views.outs-StatKind::Call call)
+    out-StatKind x.kind ≡ level.StatKind::Call call → Stand b vs (expr call ∷ [])
+in_call_statement b vs x after call s k = in_quiet b vs x after (level.StatKind::Call call) (expr call ∷ []) (λ s. refl) s k
 
 pub in_branch : (b : Bindings) (vs : List Visible) (x : Stat) (after : List Part) (arms : List Arm) (other : Option (List Stat)) →
-    Stand b vs (stat x ∷ after) → x.kind ≡ stat_kind.If arms other → Stand b vs (map arm arms ++ else_block other)
+    Stand b vs (stat x ∷ after) → out-StatKind x.kind ≡ level.StatKind::If arms other → Stand b vs (map arm arms ++ else_block other)
 in_branch b vs x after arms other s k =
-    in_statement b vs x after (level.StatKind::If arms other) (map arm arms ++ else_block other)
-    (record { scope = λ s. refl; first = λ s. refl; declared = λ s. omega arith }) (λ s. refl) s
-    (ap out-StatKind k ∙ views.outs-StatKind::If arms other)
+    in_quiet b vs x after (level.StatKind::If arms other) (map arm arms ++ else_block other) (λ s. refl) s k
 
 pub in_loop : (b : Bindings) (vs : List Visible) (x : Stat) (after : List Part) (cond : Expr) (body : List Stat) →
-    Stand b vs (stat x ∷ after) → x.kind ≡ stat_kind.While cond body → Stand b vs (expr cond ∷ block [] body ∷ [])
-in_loop b vs x after cond body s k =
-    in_statement b vs x after (level.While cond body) (expr cond ∷ block [] body ∷ [])
-    (record { scope = λ s. refl; first = λ s. refl; declared = λ s. omega arith }) (λ s. refl) s (ap out-StatKind k
-    ∙ views.outs-While cond body)
+    Stand b vs (stat x ∷ after) → out-StatKind x.kind ≡ level.While cond body → Stand b vs (expr cond ∷ block [] body ∷ [])
+in_loop b vs x after cond body s k = in_quiet b vs x after (level.While cond body) (expr cond ∷ block [] body ∷ []) (λ s. refl) s k
 
 pub in_arm : (b : Bindings) (vs : List Visible) (a : Arm) (after : List Part) → Stand b vs (arm a ∷ after) →
     Stand b vs (expr (out-Arm a).cond ∷ block [] (out-Arm a).body ∷ [])
@@ -181,7 +173,7 @@ behind_condition b vs cond body s = in_block b vs body [] (behind_quiet b vs (ex
 
 -- the block of `else`
 pub in_else : (b : Bindings) (vs : List Visible) (x : Stat) (after : List Part) (a : Arm) (others : List Stat) →
-    Stand b vs (stat x ∷ after) → x.kind ≡ stat_kind.If (a ∷ []) (Some others) → Stand b vs (map stat others)
+    Stand b vs (stat x ∷ after) → out-StatKind x.kind ≡ level.StatKind::If (a ∷ []) (Some others) → Stand b vs (map stat others)
 in_else b vs x after a others s k =
     in_block b vs others [] (behind_quiet b vs (arm a) (block [] others ∷ []) (λ n. refl) (in_branch b vs x after (a ∷ []) (Some others) s k))
 
@@ -242,7 +234,7 @@ behind_statement b vs x after s =
 -- ---- names
 
 level_names : (l : StatLevel) (n : ℕ) (vs : List Visible) → names_of (reverse (stat_shows l n) ++ vs) ≡ names_beyond l (names_of vs)
-level_names (level.Local xs es) n vs = reversed_names n xs vs
+level_names (level.Local xs es) n vs = reversed_names n xs vs ∙ ap (λ z. reverse z ++ names_of vs) (sym (visible_names 0 xs))
 level_names (level.LocalFunction x f) n vs = refl
 level_names _ n vs = refl
 
@@ -268,36 +260,11 @@ pub right_operand : (b : Bindings) (vs : List Visible) (e l r seen : Expr) (op :
 right_operand b vs e l r seen op k same s =
     subst (λ (z : Expr). StandsAt b vs (expr z)) (sym same) (right_one b vs l r (operands b vs e l r op k s))
 
-pub call_argument : (b : Bindings) (vs : List Visible) (call callee argument seen : Expr) → call.kind ≡ expr_kind.Call callee (argument ∷ []) →
-    seen ≡ argument → StandsAt b vs (expr call) → StandsAt b vs (expr seen)
-call_argument b vs call callee argument seen k same s =
-    subst (λ (z : Expr). StandsAt b vs (expr z)) (sym same) (right_one b vs callee argument (in_expr b vs call s.0 (level.ExprKind::Call callee
-    (argument ∷ [])) s.1 (ap out-ExprKind k ∙ views.outs-ExprKind::Call callee (argument ∷ []))))
+pub in_call : (b : Bindings) (vs : List Visible) (call callee : Expr) (args : List Expr) (after : List Part) →
+    call.kind ≡ expr_kind.Call callee args → Stand b vs (expr call ∷ after) → Stand b vs (expr callee ∷ map expr args)
+in_call b vs call callee args after k s =
+    in_expr b vs call after (level.ExprKind::Call callee args) s (ap out-ExprKind k ∙ views.outs-ExprKind::Call callee args)
 
--- ---- what stands in a statement
-
-pub local_value : (b : Bindings) (vs : List Visible) (x : Stat) (name : StrId) (value seen : Expr) →
-    x.kind ≡ stat_kind.Local (name ∷ []) (value ∷ []) → seen ≡ value → StandsAt b vs (stat x) → StandsAt b vs (expr seen)
-local_value b vs x name value seen k same s =
-    subst (λ (z : Expr). StandsAt b vs (expr z)) (sym same) ([], in_local b vs x s.0 (name ∷ []) (value ∷ []) s.1 k)
-
-pub assignment_parts : (b : Bindings) (vs : List Visible) (x : Stat) (target value : Expr) →
-    x.kind ≡ stat_kind.Assign (target ∷ []) (value ∷ []) → StandsAt b vs (stat x) → Stand b vs (expr target ∷ expr value ∷ [])
-assignment_parts b vs x target value k s = in_assignment b vs x s.0 (target ∷ []) (value ∷ []) s.1 k
-
-pub statement_call : (b : Bindings) (vs : List Visible) (x : Stat) (call : Expr) → x.kind ≡ stat_kind.Call call → StandsAt b vs (stat x) →
-    StandsAt b vs (expr call)
-statement_call b vs x call k s = ([], in_call_statement b vs x s.0 call s.1 k)
-
--- a condition and its block
-pub arm_parts : (b : Bindings) (vs : List Visible) (x : Stat) (a : Arm) (other : Option (List Stat)) → x.kind ≡ stat_kind.If (a ∷ []) other →
-    StandsAt b vs (stat x) → Stand b vs (expr (out-Arm a).cond ∷ block [] (out-Arm a).body ∷ [])
-arm_parts b vs x a other k s = in_arm b vs a (else_block other) (in_branch b vs x s.0 (a ∷ []) other s.1 k)
-
-pub condition_stands : (b : Bindings) (vs : List Visible) (cond : Expr) (body : List Stat) → Stand b vs (expr cond ∷ block [] body ∷ []) →
-    StandsAt b vs (expr cond)
-condition_stands b vs cond body s = (block [] body ∷ [], s)
-
-pub block_seen : (b : Bindings) (vs : List Visible) (body seen : List Stat) → seen ≡ body → Stand b vs (map stat body) →
-    Stand b vs (map stat seen)
-block_seen b vs body seen same s = subst (λ (l : List Stat). Stand b vs (map stat l)) (sym same) s
+pub call_argument : (b : Bindings) (vs : List Visible) (call callee argument : Expr) → call.kind ≡ expr_kind.Call callee (argument ∷ []) →
+    StandsAt b vs (expr call) → StandsAt b vs (expr argument)
+call_argument b vs call callee argument k s = right_one b vs callee argument (in_call b vs call callee (argument ∷ []) s.0 k s.1)

@@ -1,6 +1,9 @@
 -- What the compiler promises.
-use Rattle.std.specs.Prelude.{◌≢◌, ℕ, List, []}
+use Rattle.std.specs.Prelude.{◌≡◌, ◌≢◌, ℕ, List, None}
+use Rattle.syntax_tree.specs.declared.bindings.Bindings.{Bindings}
+use Rattle.syntax_tree.specs.declared.tree.FuncBody.{out-FuncBody}
 use Rattle.syntax_tree.specs.declared.tree.Stat.{Stat}
+use Rattle.syntax_tree.specs.declared.tree.Tree.{Tree}
 use Rattle.built_values.specs.declared.end.End.TheVariants.{Stuck}
 use Rattle.built_values.specs.Runs.{Report, Agree}
 use Rattle.source_meaning.specs.Steps as source
@@ -8,7 +11,8 @@ use Rattle.source_meaning.specs.Runs.{SourceRun}
 use Rattle.machine_meaning.specs.declared.code.Constant.{Constant}
 use Rattle.machine_meaning.specs.Steps as machine
 use Rattle.machine_meaning.specs.Runs.{MachineRun}
-use Rattle.emit_stat.specs.Form.{IsBlock}
+use Rattle.emit_stat.specs.Standing.{IsBound}
+use Rattle.emit_stat.specs.Unbuilt.{first_unbuilt}
 
 -- each table that is asked counts one
 abbrev pub SameRun : Report (List ℕ) source.Look → Report (List ℕ) machine.Look → Type 0
@@ -22,6 +26,8 @@ pub record Behaves (body : List Stat) (words : List ℕ) (ks : List Constant) : 
   pub ends : (n : ℕ) → (r : Report (List ℕ) source.Look) × SourceRun body n r
   pub sound : (n : ℕ) (r : Report (List ℕ) source.Look) → SourceRun body n r → r.end ≢ Stuck
 
--- Each script of the form has a report with each bound on its turns, and is not stuck there.
+-- Each script all of whose nodes are built has a report with each bound on its turns, and is not stuck there.
 abbrev pub RunsHaveReports : Type 0
-RunsHaveReports = (body : List Stat) → IsBlock [] body → (n : ℕ) → (r : Report (List ℕ) source.Look) × SourceRun body n r × (r.end ≢ Stuck)
+RunsHaveReports =
+    (tree : Tree) (b : Bindings) → IsBound tree b → first_unbuilt b (out-FuncBody tree.main).body ≡ None → (n : ℕ) →
+    (r : Report (List ℕ) source.Look) × SourceRun (out-FuncBody tree.main).body n r × (r.end ≢ Stuck)

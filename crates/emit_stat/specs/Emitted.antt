@@ -13,7 +13,7 @@ use Rattle.built_values.specs.Globals.{print_name}
 use Rattle.machine_meaning.specs.declared.code.Constant.{Constant}
 use Rattle.machine_meaning.specs.declared.code.Constant.TheVariants as constant
 use Rattle.emit_stat.specs.declared.draft.Draft.{Draft}
-use Rattle.emit_stat.specs.Form.{register_of}
+use Rattle.emit_stat.specs.Names.{register_of}
 use Rattle.emit_stat.specs.Size.{expr_words, stat_words, block_words}
 use Rattle.emit_stat.specs.Code.{IsNumberCode, IsValueCode, IsTestCode, IsPrintCode, IsStatementCode, IsBlockCode, IsScriptCode}
 use Rattle.emit_stat.specs.Fits.{AllFit}
@@ -97,7 +97,8 @@ pub record IsTarget (names : List StrId) (target : Expr) : Type 0 where
 
 -- the value in the first free register is copied into the target's
 pub data IsAssignmentCode (ks : List Constant) (names : List StrId) (target e : Expr) : List Insn → Type 0 where
-  assigns : (x : StrId) (r : ℕ) (is : List Insn) → target.kind ≡ expr.Name x → register_of names x ≡ Some r → IsValueCode ks names (length names) e is → IsAssignmentCode ks names target e (is ++ insn.Move r (length names) ∷ [])
+  assigns : (x : StrId) (r : ℕ) (is : List Insn) → target.kind ≡ expr.Name x → register_of names x ≡ Some r →
+      IsValueCode ks names (length names) e is → IsAssignmentCode ks names target e (is ++ insn.Move r (length names) ∷ [])
 
 abbrev pub EmitsAssignment : List StrId → (target e : Expr) → (old new : Draft) → Type 0
 EmitsAssignment names target e old new = EmitsInsns old new (expr_words e + 1) (λ ks is. IsAssignmentCode ks names target e is)

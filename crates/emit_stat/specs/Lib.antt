@@ -1,9 +1,11 @@
+pub mod Unbuilt
+pub mod Fitting
 pub mod Form
+pub mod Names
+pub mod Operations
 pub mod Size
 pub mod Code
 pub mod Fits
 pub mod Correct
 pub mod Emitted
 pub mod Standing
-pub mod Unbuilt
-pub mod Fitting

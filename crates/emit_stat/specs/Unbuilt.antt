@@ -19,7 +19,7 @@ use Rattle.syntax_tree.specs.declared.tree.ExprKind.TheOpen.{ExprKind-F, StatKin
 use Rattle.syntax_tree.specs.declared.tree.Stat.{Stat}
 use Rattle.syntax_tree.specs.Fold.{Steps, at_expr, at_stat, at_arm}
 use Rattle.built_values.specs.Globals.{print_name}
-use Rattle.emit_stat.specs.Form.{operation, unless}
+use Rattle.emit_stat.specs.Operations.{operation, unless}
 use Rattle.emit_stat.specs.Standing.{bound_at}
 
 -- the place of the first node that is not built, if there is one

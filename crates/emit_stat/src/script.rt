@@ -4,7 +4,7 @@ ghost use Rattle.std.specs.Prelude.{◌≤◌, [], IfOk};
 ghost use Rattle.syntax_tree.specs.declared.tree.FuncBody.{out-FuncBody};
 ghost use Rattle.emit_stat.specs.Form.{IsBlock};
 ghost use Rattle.emit_stat.specs.Standing.{IsBound};
-ghost use Rattle.emit_stat.specs.Size.{block_words};
+ghost use Rattle.emit_stat.specs.Size.{most_words, block_words};
 ghost use Rattle.emit_stat.specs.Correct.{Behaves};
 ghost use Rattle.emit_stat.specs.Emitted.{IsEmitted};
 
@@ -22,8 +22,8 @@ use syntax_tree::{Bindings, Tree};
 /// The words of a script, at level 0. The bindings are those of its tree. The only error is want of memory.
 pub fn compile(alloc: Global, tree: &Tree, bindings: &Bindings) -> Result<Code, OutOfMemory>
     requires bound { IsBound tree.now bindings.now }
-    requires form { IsBlock [] (out-FuncBody tree.now.main).body }
-    requires small { block_words (out-FuncBody tree.now.main).body ≤ 29998 }
+    requires form { IsBlock bindings.now [] (out-FuncBody tree.now.main).body }
+    requires small { block_words (out-FuncBody tree.now.main).body ≤ most_words }
     ensures { IfOk result (λ code. Behaves (out-FuncBody tree.now.main).body code.words.items code.constants.items) }
 {
     let Draft {
@@ -38,8 +38,8 @@ pub fn compile(alloc: Global, tree: &Tree, bindings: &Bindings) -> Result<Code, 
 // The code of a script with labels.
 fn emit_script(alloc: Global, tree: &Tree, bindings: &Bindings) -> Result<Draft, OutOfMemory>
     requires bound { IsBound tree.now bindings.now }
-    requires form { IsBlock [] (out-FuncBody tree.now.main).body }
-    requires small { block_words (out-FuncBody tree.now.main).body ≤ 29998 }
+    requires form { IsBlock bindings.now [] (out-FuncBody tree.now.main).body }
+    requires small { block_words (out-FuncBody tree.now.main).body ≤ most_words }
     ensures { IfOk result (IsEmitted (out-FuncBody tree.now.main).body) }
 {
     let mut code = Draft {

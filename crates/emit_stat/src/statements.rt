@@ -1,8 +1,10 @@
 //! The code of statements.
 
 ghost use Rattle.std.specs.Prelude.{◌≡◌, ◌+◌, ◌^◌, ◌<◌, ◌≤◌, [], ◌∷◌, map, length, OnOk, Some, IsSome};
-ghost use Rattle.emit_stat.specs.Form.{room, unless, IsArithmetic, IsCondition, IsPrint, IsStatement, IsBlock};
+ghost use Rattle.emit_stat.specs.Operations.{unless};
+ghost use Rattle.emit_stat.specs.Form.{room, IsValue, IsCondition, IsCall, IsStatement, IsBlock};
 ghost use Rattle.emit_stat.specs.Size.{expr_words, stat_words, block_words};
+ghost use Rattle.syntax_tree.specs.Limits.{most_variables};
 ghost use Rattle.emit_stat.specs.Emitted.{NamesPrint, IsTarget, EmitsAssignment, EmitsPrint, EmitsTest, EmitsStatement, EmitsBlock};
 ghost use Rattle.emit_stat.specs.Standing.{names_of, scope_after, Stand, StandsAt};
 ghost use Rattle.scope_laws.specs.Sight as sight;
@@ -30,8 +32,8 @@ fn emit_assignment(
 ) -> Result<(), OutOfMemory>
     requires stand { Stand bindings.now scope.now (sight.expr target.now ∷ sight.expr value.now ∷ []) }
     requires target { IsTarget (names_of scope.now) target.now }
-    requires value { IsArithmetic (names_of scope.now) (room (names_of scope.now) 0) value.now }
-    requires few { length (names_of scope.now) ≤ 200 }
+    requires value { IsValue bindings.now (room (names_of scope.now) 0) value.now }
+    requires few { length (names_of scope.now) ≤ most_variables }
     requires room { length code.old.constants.items + expr_words value.now ≤ 2 ^ 15 }
     ensures { OnOk result (EmitsAssignment (names_of scope.now) target.now value.now code.old code.new) }
 {
@@ -42,7 +44,6 @@ fn emit_assignment(
 }
 
 // A call of `print` with one value.
-#[tactic(auto, using(crate::proofs::EmittedStatements::argument_form, crate::proofs::EmittedStatements::argument_words, crate::proofs::EmittedStatements::emits_of_print))]
 fn emit_print(
     code: &mut Draft,
     scope: &Scope,
@@ -50,8 +51,8 @@ fn emit_print(
     call: &Expr,
 ) -> Result<(), OutOfMemory>
     requires stands { StandsAt bindings.now scope.now (sight.expr call.now) }
-    requires form { IsPrint (names_of scope.now) call.now }
-    requires few { length (names_of scope.now) ≤ 200 }
+    requires form { IsCall bindings.now (names_of scope.now) call.now }
+    requires few { length (names_of scope.now) ≤ most_variables }
     requires room { length code.old.constants.items + expr_words call.now ≤ 2 ^ 15 }
     requires print { NamesPrint code.old }
     ensures { OnOk result (EmitsPrint (names_of scope.now) call.now code.old code.new) }
@@ -125,8 +126,8 @@ fn emit_test(
     cond: &Expr,
 ) -> Result<(), OutOfMemory>
     requires stands { StandsAt bindings.now scope.now (sight.expr cond.now) }
-    requires form { IsCondition (names_of scope.now) cond.now }
-    requires few { length (names_of scope.now) ≤ 200 }
+    requires form { IsCondition bindings.now (names_of scope.now) cond.now }
+    requires few { length (names_of scope.now) ≤ most_variables }
     requires room { length code.old.constants.items + expr_words cond.now ≤ 2 ^ 15 }
     requires label { label < code.old.labels }
     ensures { OnOk result (EmitsTest (names_of scope.now) label cond.now code.old code.new) }
@@ -149,8 +150,8 @@ fn emit_statement(
     stat: &Stat,
 ) -> Result<(), OutOfMemory>
     requires stands { StandsAt bindings.now scope.old (sight.stat stat.now) }
-    requires form { IsStatement (names_of scope.old) stat.now }
-    requires few { length (names_of scope.old) ≤ 200 }
+    requires form { IsStatement bindings.now (names_of scope.old) stat.now }
+    requires few { length (names_of scope.old) ≤ most_variables }
     requires room { length code.old.constants.items + stat_words stat.now ≤ 2 ^ 15 }
     requires labels { code.old.labels + stat_words stat.now ≤ 2 ^ 15 }
     requires print { NamesPrint code.old }
@@ -214,7 +215,7 @@ pub fn emit_block(
     block: &[Stat],
 ) -> Result<(), OutOfMemory>
     requires stand { Stand bindings.now scope.old (map sight.stat block.now) }
-    requires form { IsBlock (names_of scope.old) block.now }
+    requires form { IsBlock bindings.now (names_of scope.old) block.now }
     requires room { length code.old.constants.items + block_words block.now ≤ 2 ^ 15 }
     requires labels { code.old.labels + block_words block.now ≤ 2 ^ 15 }
     requires print { NamesPrint code.old }

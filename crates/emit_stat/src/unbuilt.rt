@@ -1,11 +1,10 @@
 //! Which node of a script is not built.
 
-ghost use Rattle.std.specs.Prelude.{◌≡◌, ◌≤◌, [], map, None, IsTrue};
+ghost use Rattle.std.specs.Prelude.{◌≡◌, ◌≤◌, [], map, None};
 ghost use Rattle.syntax_tree.specs.declared.tree.FuncBody.{out-FuncBody};
 ghost use Rattle.syntax_tree.specs.Bound.{faults};
 ghost use Rattle.emit_stat.specs.Form.{IsBlock};
-ghost use Rattle.emit_stat.specs.Fitting.{ValueForm, TargetForm, PrintNameForm, ConditionForm, CallForm, PrintForm, LocalForm, AssignmentForm, ArmForm, StatementForm, BlockForm};
-ghost use Rattle.emit_stat.specs.Size.{block_words};
+ghost use Rattle.emit_stat.specs.Size.{most_words, block_words};
 ghost use Rattle.emit_stat.specs.Standing.{IsBound};
 ghost use Rattle.emit_stat.specs.Unbuilt.{uses_of, unbuilt_in_stat, unbuilt_in_arm, is_arithmetic, is_comparison, local_statement, assignment, print_call, first_unbuilt};
 
@@ -19,8 +18,8 @@ use syntax_tree::{Arm, BinOp, Bindings, Bound, Expr, ExprKind, Stat, StatKind, T
 pub fn first_unbuilt(tree: &Tree, bindings: &Bindings) -> Option<usize>
     requires { IsBound tree.now bindings.now }
     ensures place { result ≡ first_unbuilt bindings.now (out-FuncBody tree.now.main).body }
-    ensures form { result ≡ None → faults tree.now ≡ [] → IsBlock [] (out-FuncBody tree.now.main).body }
-    ensures small { result ≡ None → faults tree.now ≡ [] → block_words (out-FuncBody tree.now.main).body ≤ 29998 }
+    ensures form { result ≡ None → faults tree.now ≡ [] → IsBlock bindings.now [] (out-FuncBody tree.now.main).body }
+    ensures small { result ≡ None → faults tree.now ≡ [] → block_words (out-FuncBody tree.now.main).body ≤ most_words }
 {
     in_block(bindings, tree.main.body.as_slice())
 }
@@ -28,8 +27,7 @@ pub fn first_unbuilt(tree: &Tree, bindings: &Bindings) -> Option<usize>
 // What is not built in a block.
 #[cycle(unbuilt)]
 fn in_block(bindings: &Bindings, block: &[Stat]) -> Option<usize>
-    ensures place { result ≡ first_unbuilt bindings.now block.now }
-    ensures form { result ≡ None → BlockForm bindings.now block.now }
+    ensures { result ≡ first_unbuilt bindings.now block.now }
 {
     for stat in block {
         if let Some(at) = in_statement(bindings, stat) {
@@ -42,8 +40,7 @@ fn in_block(bindings: &Bindings, block: &[Stat]) -> Option<usize>
 // What is not built in a statement.
 #[cycle(unbuilt)]
 fn in_statement(bindings: &Bindings, stat: &Stat) -> Option<usize>
-    ensures place { result ≡ unbuilt_in_stat bindings.now stat.now }
-    ensures form { result ≡ None → StatementForm bindings.now stat.now }
+    ensures { result ≡ unbuilt_in_stat bindings.now stat.now }
 {
     match &stat.kind {
         StatKind::Local { names, values } => {
@@ -76,8 +73,7 @@ fn in_statement(bindings: &Bindings, stat: &Stat) -> Option<usize>
 // What is not built in a condition and its block.
 #[cycle(unbuilt)]
 fn in_arm(bindings: &Bindings, arm: &Arm) -> Option<usize>
-    ensures place { result ≡ unbuilt_in_arm bindings.now arm.now }
-    ensures form { result ≡ None → ArmForm bindings.now arm.now }
+    ensures { result ≡ unbuilt_in_arm bindings.now arm.now }
 {
     match in_condition(bindings, &arm.cond) {
         Some(at) => Some(at),
@@ -87,8 +83,7 @@ fn in_arm(bindings: &Bindings, arm: &Arm) -> Option<usize>
 
 // What is not built in a `local` at a place.
 fn in_local(bindings: &Bindings, at: usize, names: &[StrId], values: &[Expr]) -> Option<usize>
-    ensures place { result ≡ local_statement at names.now (map (uses_of bindings.now) values.now) }
-    ensures form { result ≡ None → LocalForm bindings.now names.now values.now }
+    ensures { result ≡ local_statement at names.now (map (uses_of bindings.now) values.now) }
 {
     let [_] = names else {
         return Some(at);
@@ -101,8 +96,7 @@ fn in_local(bindings: &Bindings, at: usize, names: &[StrId], values: &[Expr]) ->
 
 // What is not built in an assignment at a place.
 fn in_assignment(bindings: &Bindings, at: usize, targets: &[Expr], values: &[Expr]) -> Option<usize>
-    ensures place { result ≡ assignment at (map (uses_of bindings.now) targets.now) (map (uses_of bindings.now) values.now) }
-    ensures form { result ≡ None → AssignmentForm bindings.now targets.now values.now }
+    ensures { result ≡ assignment at (map (uses_of bindings.now) targets.now) (map (uses_of bindings.now) values.now) }
 {
     let [target] = targets else {
         return Some(at);
@@ -119,8 +113,7 @@ fn in_assignment(bindings: &Bindings, at: usize, targets: &[Expr], values: &[Exp
 
 // What is not built in a call that is a statement.
 fn in_call(bindings: &Bindings, call: &Expr) -> Option<usize>
-    ensures place { result ≡ (uses_of bindings.now call.now).call }
-    ensures form { result ≡ None → CallForm bindings.now call.now }
+    ensures { result ≡ (uses_of bindings.now call.now).call }
 {
     match &call.kind {
         ExprKind::Call { callee, args } => {
@@ -132,8 +125,7 @@ fn in_call(bindings: &Bindings, call: &Expr) -> Option<usize>
 
 // What is not built in a call of a function at a place.
 fn in_print(bindings: &Bindings, at: usize, callee: &Expr, args: &[Expr]) -> Option<usize>
-    ensures place { result ≡ print_call at (uses_of bindings.now callee.now) (map (uses_of bindings.now) args.now) }
-    ensures form { result ≡ None → PrintForm bindings.now callee.now args.now }
+    ensures { result ≡ print_call at (uses_of bindings.now callee.now) (map (uses_of bindings.now) args.now) }
 {
     let [argument] = args else {
         return Some(at);
@@ -147,8 +139,7 @@ fn in_print(bindings: &Bindings, at: usize, callee: &Expr, args: &[Expr]) -> Opt
 
 // What is not built in a condition.
 fn in_condition(bindings: &Bindings, cond: &Expr) -> Option<usize>
-    ensures place { result ≡ (uses_of bindings.now cond.now).condition }
-    ensures form { result ≡ None → ConditionForm bindings.now cond.now }
+    ensures { result ≡ (uses_of bindings.now cond.now).condition }
 {
     match &cond.kind {
         ExprKind::Binary { op, a, b } => {
@@ -166,8 +157,7 @@ fn in_condition(bindings: &Bindings, cond: &Expr) -> Option<usize>
 
 // What is not built in a value.
 fn in_value(bindings: &Bindings, e: &Expr) -> Option<usize>
-    ensures place { result ≡ (uses_of bindings.now e.now).value }
-    ensures form { result ≡ None → ValueForm bindings.now e.now }
+    ensures { result ≡ (uses_of bindings.now e.now).value }
 {
     match &e.kind {
         ExprKind::Num(_) => None,
@@ -190,8 +180,7 @@ fn in_value(bindings: &Bindings, e: &Expr) -> Option<usize>
 
 // Whether an expression is the name of a local.
 fn is_local(bindings: &Bindings, e: &Expr) -> bool
-    ensures test { result ≡ (uses_of bindings.now e.now).local }
-    ensures form { IsTrue result → TargetForm bindings.now e.now }
+    ensures { result ≡ (uses_of bindings.now e.now).local }
 {
     match &e.kind {
         ExprKind::Name(_) => matches!(bound_at(bindings, e.id), Some(Bound::Local(_))),
@@ -201,8 +190,7 @@ fn is_local(bindings: &Bindings, e: &Expr) -> bool
 
 // Whether an expression is the name `print`, which no local has taken.
 fn is_print(bindings: &Bindings, e: &Expr) -> bool
-    ensures test { result ≡ (uses_of bindings.now e.now).print }
-    ensures form { IsTrue result → PrintNameForm bindings.now e.now }
+    ensures { result ≡ (uses_of bindings.now e.now).print }
 {
     match &e.kind {
         ExprKind::Name(name) => {

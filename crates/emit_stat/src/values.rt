@@ -1,9 +1,12 @@
 //! The code of values.
 
-ghost use Rattle.std.specs.Prelude.{◌≡◌, ◌+◌, ◌-◌, ◌^◌, ◌<◌, ◌≤◌, length, OnOk, Some, IsSome, IfSome};
-ghost use Rattle.emit_stat.specs.Form.{operation, register_of, IsArithmetic};
+ghost use Rattle.std.specs.Prelude.{◌≡◌, ◌+◌, ◌-◌, ◌^◌, ◌<◌, ◌≤◌, length, OnOk, Some, IsSome, IfSome, IsTrue};
+ghost use Rattle.emit_stat.specs.Names.{register_of};
+ghost use Rattle.emit_stat.specs.Operations.{operation};
+ghost use Rattle.emit_stat.specs.Form.{IsValue};
 ghost use Rattle.emit_stat.specs.Size.{expr_words};
 ghost use Rattle.emit_stat.specs.Emitted.{EmitsNumber, EmitsValue};
+ghost use Rattle.emit_stat.specs.Unbuilt.{uses_of};
 ghost use Rattle.emit_stat.specs.Standing.{names_of, register_bound, StandsAt};
 ghost use Rattle.scope_laws.specs.Sight.{expr};
 ghost use Rattle.byte_text.specs.declared.fixed.StrId.{StrId};
@@ -54,13 +57,14 @@ fn register_bound(scope: &Scope, bound: Option<Bound>) -> Option<usize>
 pub fn register_of(scope: &Scope, bindings: &Bindings, e: &Expr) -> Option<usize>
     requires { StandsAt bindings.now scope.now (expr e.now) }
     ensures register { (x : StrId) → e.now.kind ≡ ExprKind.Name x → result ≡ register_of (names_of scope.now) x }
+    ensures declared { IsTrue (uses_of bindings.now e.now).local → IsSome result }
     ensures within { IfSome result (λ r. r < length (names_of scope.now)) }
 {
     register_bound(scope, bound_at(bindings, e.id))
 }
 
 /// Leaves the value of an expression in register `to`, and changes only those from there on.
-#[tactic(auto, using(crate::proofs::EmittedValues::emits_of_number, crate::proofs::EmittedValues::emits_of_name, crate::proofs::EmittedValues::emits_of_result, crate::proofs::EmittedValues::second_register))]
+#[tactic(auto, using(crate::proofs::EmittedValues::emits_of_number, crate::proofs::EmittedValues::emits_of_result, crate::proofs::EmittedValues::known_operation))]
 pub fn emit_value(
     code: &mut Draft,
     scope: &Scope,
@@ -68,7 +72,7 @@ pub fn emit_value(
     to: u8,
     e: &Expr,
 ) -> Result<(), OutOfMemory>
-    requires form { IsArithmetic (names_of scope.now) (256 - to) e.now }
+    requires form { IsValue bindings.now (256 - to) e.now }
     requires stands { StandsAt bindings.now scope.now (expr e.now) }
     requires above { length (names_of scope.now) ≤ to }
     requires room { length code.old.constants.items + expr_words e.now ≤ 2 ^ 15 }

@@ -8,7 +8,7 @@ use Rattle.syntax_tree.specs.Accepts.{Accepts, Refuses}
 use Rattle.syntax_tree.specs.Bound.{bound}
 use Rattle.syntax_tree.specs.Causes.{refusal_text}
 use Rattle.emit_stat.specs.Form.{IsBlock}
-use Rattle.emit_stat.specs.Size.{block_words}
+use Rattle.emit_stat.specs.Size.{most_words, block_words}
 use Rattle.emit_stat.specs.Standing.{IsBound}
 use Rattle.emit_stat.specs.Unbuilt.{first_unbuilt}
 use Rattle.luau_cli.specs.declared.refusal.ScriptErr.{ScriptErr}
@@ -48,5 +48,6 @@ IsReadingOf bytes (reading.Refused why) = IsRefused bytes why
 
 -- a tree that is read has these bindings, and can be compiled
 abbrev pub IsCompilable : Reading → Type 0
-IsCompilable (reading.Script tree bindings) = IsBound tree bindings × IsBlock [] (statements tree) × (block_words (statements tree) ≤ 29998)
+IsCompilable (reading.Script tree bindings) =
+    IsBound tree bindings × IsBlock bindings [] (statements tree) × (block_words (statements tree) ≤ most_words)
 IsCompilable (reading.Refused why) = Unit {0}

@@ -1,4 +1,4 @@
-use Rattle.emit_stat.proofs.NeverStuck.{has_report}
+use Rattle.emit_stat.proofs.BuiltBlocks.{has_report}
 use Rattle.emit_stat.proofs.laws.has_report.Goals as goal
 
 pub returns : goal.returns

@@ -1,7 +1,8 @@
-use Rattle.syntax_tree.specs.declared.tree.FuncBody.{out-FuncBody}
 use Rattle.emit_stat.proofs.Behaving.{behaves}
 use Rattle.emit_stat.proofs.script.compile.Goals as goal
 
 pub returns : goal.returns
 returns c =
-    behaves c.in_ok-items.field-0.constants.items (out-FuncBody c.args.tree.now.main).body c.in_ok-items.field-0.items.items c.in_ok-words.field-0.code.items c.requires.form c.in_ok-items.ensures.script c.in_ok-items.ensures.fit c.in_ok-words.ensures
+    let code = c.in_ok-items.field-0 in
+    behaves c.args.tree.now c.args.bindings.now code.constants.items code.items.items c.in_ok-words.field-0.code.items c.requires.bound
+    c.requires.form.built c.in_ok-items.ensures.script c.in_ok-items.ensures.fit c.in_ok-words.ensures

@@ -5,4 +5,5 @@ use Rattle.emit_stat.proofs.statements.+statements.Given as goal
 
 abbrev pub invariant-emit_block-loop-stat : goal.invariant-emit_block-loop-stat
 invariant-emit_block-loop-stat l =
-    HasFirst l.block l.stat-index (names_of l.fn.scope) (names_of l.scope) l.fn.code l.code × HasScope l.fn.bindings l.block l.stat-index l.fn.scope l.scope
+    HasFirst l.fn.bindings l.block l.stat-index (names_of l.fn.scope) (names_of l.scope) l.fn.code l.code × HasScope l.fn.bindings l.block
+    l.stat-index l.fn.scope l.scope

@@ -1,6 +1,6 @@
 use Rattle.std.proofs.Common.{◌-◌, ◌+◌, sym, ap, subst, arith}
 use Rattle.emit_stat.specs.Standing.{names_of}
-use Rattle.emit_stat.specs.Form.{room, IsArithmetic}
+use Rattle.emit_stat.specs.Form.{room, IsValue}
 use Rattle.emit_stat.specs.Size.{expr_words}
 use Rattle.emit_stat.proofs.TreeForms.{comparison, words_of_result, more_registers}
 use Rattle.emit_stat.proofs.StandingParts.{left_operand, right_operand}
@@ -9,13 +9,19 @@ use Rattle.emit_stat.proofs.statements.emit_test.Goals as goal
 
 pub emit_value-requires-clause-form : goal.emit_value-requires-clause-form
 emit_value-requires-clause-form c =
-    let p = comparison (names_of c.args.scope.now) c.args.cond.now c.in-Binary.a c.in-Binary.b c.in-Binary.op c.requires.form c.in-Binary.is in
-    more_registers (names_of c.args.scope.now) (room (names_of c.args.scope.now) 0) (256 - c.free_register-left.result) c.get.result.now (omega arith) (subst (λ x. IsArithmetic (names_of c.args.scope.now) (room (names_of c.args.scope.now) 0) x) (sym c.get.ensures) p.left)
+    let b = c.args.bindings.now in
+    let names = names_of c.args.scope.now in
+    let p = comparison b names c.args.cond.now c.in-Binary.a c.in-Binary.b c.in-Binary.op c.requires.form c.in-Binary.is in
+    more_registers b (room names 0) (256 - c.free_register-left.result) c.get.result.now (omega arith)
+    (subst (λ x. IsValue b (room names 0) x) (sym c.get.ensures) p.left)
 
 pub emit_value-requires-2-clause-form : goal.emit_value-requires-2-clause-form
 emit_value-requires-2-clause-form c =
-    let p = comparison (names_of c.args.scope.now) c.args.cond.now c.in-Binary.a c.in-Binary.b c.in-Binary.op c.requires.form c.in-Binary.is in
-    more_registers (names_of c.args.scope.now) (room (names_of c.args.scope.now) 1) (256 - (c.free_register-left.result + 1)) c.get-2.result.now (omega arith) (subst (λ x. IsArithmetic (names_of c.args.scope.now) (room (names_of c.args.scope.now) 1) x) (sym c.get-2.ensures) p.right)
+    let b = c.args.bindings.now in
+    let names = names_of c.args.scope.now in
+    let p = comparison b names c.args.cond.now c.in-Binary.a c.in-Binary.b c.in-Binary.op c.requires.form c.in-Binary.is in
+    more_registers b (room names 1) (256 - (c.free_register-left.result + 1)) c.get-2.result.now (omega arith)
+    (subst (λ x. IsValue b (room names 1) x) (sym c.get-2.ensures) p.right)
 
 pub emit_value-requires-2-clause-room : goal.emit_value-requires-2-clause-room
 emit_value-requires-2-clause-room c =
