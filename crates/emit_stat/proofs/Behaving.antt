@@ -22,7 +22,8 @@ use Rattle.emit_stat.specs.Code.{IsScriptCode}
 use Rattle.emit_stat.specs.Correct.{Behaves}
 use Rattle.emit_stat.proofs.Locals.{Locals}
 use Rattle.emit_stat.proofs.Reading.{reads, split}
-use Rattle.emit_stat.proofs.Following.{Alike, by_machine, both_end, statements_same}
+use Rattle.emit_stat.proofs.Following.{Alike, by_machine, both_end}
+use Rattle.emit_stat.proofs.Simulation.{statements_same}
 use Rattle.emit_stat.proofs.BuiltBlocks.{has_report}
 use Rattle.emit_stat.proofs.NeverStuck.{never_stuck}
 

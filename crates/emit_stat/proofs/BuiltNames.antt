@@ -17,7 +17,7 @@ use Rattle.scope_laws.specs.Sight.{Part, expr}
 use Rattle.built_values.specs.Globals.{print_name}
 use Rattle.emit_stat.specs.Names.{register_of}
 use Rattle.emit_stat.specs.Standing.{bound_at, names_of, Stand}
-use Rattle.emit_stat.specs.Unbuilt.{ExprUses, steps, is_local, is_global, is_print, kind_uses, uses_of}
+use Rattle.emit_stat.specs.Unbuilt.{ExprUses, steps, is_local, is_global, kind_uses, uses_of}
 use Rattle.emit_stat.proofs.NewestNames.{newest_register, newest_first, some_newest}
 use Rattle.emit_stat.proofs.NodeLevels.{ExprKindNode, kind_level, of_kind}
 use Rattle.emit_stat.proofs.StandingNames.{name_bound, look_register, is_registered, global_register}

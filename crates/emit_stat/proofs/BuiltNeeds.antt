@@ -14,7 +14,7 @@ use Rattle.syntax_tree.specs.Need as need
 use Rattle.syntax_tree.specs.Need.{StatNeed, need_stat}
 use Rattle.syntax_tree.specs.Rules as rules
 use Rattle.syntax_tree.specs.Rules.{StatRules, too_many, rules_stat}
-use Rattle.scope_laws.specs.Sight.{visible, stat_shows}
+use Rattle.scope_laws.specs.Sight.{stat_shows}
 use Rattle.emit_stat.specs.Names.{names_after, names_beyond}
 use Rattle.emit_stat.specs.Fitting.{LocalsFit, StatementFits, BlockFits}
 use Rattle.emit_stat.specs.Standing.{names_of}

@@ -1,48 +1,44 @@
 -- The machine follows the script: from states that fit, both come to one report. To show it of a node, it is enough to show it of what
 -- follows: wherever the node's value is given, or its statement is over, and the machine stands behind the node's code.
-use Rattle.std.proofs.Common.{◌≡◌, ℕ, zero, suc, ◌+◌, ◌<◌, ◌≤◌, ℤ, pos, ◌+ℤ◌, Bool, true, false, List, [], ◌∷◌, ◌++◌, length, map, Option, Some, None, Ok, Err, refl, sym, ap, ◌∙◌, subst, arith}
-use Rattle.std.specs.Prelude.{slice_set, not, option_map}
+use Rattle.op_words.specs.declared.insn.Insn.{Insn as Instruction}
+use Rattle.std.proofs.Common.{◌≡◌, ℤ, List, map, Option, sym, ap, ◌∙◌, ℕ, ◌≤◌, [], ◌∷◌, length, Bool, true, false, Some, None, refl, arith, ◌+◌, ◌++◌, subst, pos, Ok, Err, ◌+ℤ◌}
 use Rattle.std.proofs.lemmas.Option.{same_Some}
+use Rattle.std.specs.Prelude.{not, option_map}
 use Rattle.byte_text.specs.declared.fixed.StrId.{StrId}
-use Rattle.syntax_tree.specs.declared.tree.Arm.{Arm, out-Arm}
-use Rattle.syntax_tree.specs.declared.tree.BinOp.{BinOp}
-use Rattle.syntax_tree.specs.declared.tree.BinOp.TheVariants as op
-use Rattle.syntax_tree.specs.declared.tree.Expr.{Expr}
-use Rattle.syntax_tree.specs.declared.tree.ExprKind.{out-ExprKind}
-use Rattle.syntax_tree.specs.declared.tree.ExprKind as expr
 use Rattle.syntax_tree.specs.declared.tree.ExprKind.TheOpen as level
 use Rattle.syntax_tree.specs.declared.tree.ExprKind.TheViews as views
+use Rattle.syntax_tree.specs.declared.tree.BinOp.TheVariants as op
+use Rattle.syntax_tree.specs.declared.tree.BinOp.{BinOp}
+use Rattle.syntax_tree.specs.declared.tree.Expr.{Expr}
+use Rattle.syntax_tree.specs.declared.tree.ExprKind.{out-ExprKind}
 use Rattle.syntax_tree.specs.declared.tree.Stat.{Stat}
-use Rattle.syntax_tree.specs.declared.tree.StatKind as stat
 use Rattle.syntax_tree.specs.declared.tree.StatKind.{out-StatKind}
-use Rattle.op_words.specs.declared.insn.Insn.{Insn as Instruction}
 use Rattle.op_words.specs.declared.insn.Insn.TheVariants as insn
 use Rattle.op_words.specs.Encoding.{encoded}
 use Rattle.op_words.specs.Decoding.{insn_at}
-use Rattle.code_link.specs.declared.item.Item.{Item}
 use Rattle.code_link.specs.declared.item.Item.TheVariants as item
+use Rattle.code_link.specs.declared.item.Item.{Item}
 use Rattle.code_link.specs.Linking.{jumping}
-use Rattle.built_values.specs.declared.value.Value.{Value}
 use Rattle.built_values.specs.declared.value.Value.TheVariants as value
+use Rattle.built_values.proofs.Together as together
+use Rattle.built_values.specs.declared.value.Value.{Value}
 use Rattle.built_values.specs.declared.end.End.{End}
 use Rattle.built_values.specs.declared.end.End.TheVariants.{Stuck, Stopped}
 use Rattle.built_values.specs.Runs.{Ends}
-use Rattle.built_values.specs.Operations.{Outcome, is_true, printed, equal, less, less_or_equal}
-use Rattle.built_values.specs.Globals.{print_name}
-use Rattle.built_values.proofs.Together as together
-use Rattle.source_meaning.specs.States.{Environment, Frame, LeftOperand, RightOperand, Callee, Argument, Discards, Declares, Assigns, Chooses, Loops, Repeats, Continues, Restores, Focus, Evaluate, Give, Execute, ExecuteAll, Choose, Done, State}
-use Rattle.source_meaning.specs.Levels.{ExprLevel, StatLevel}
+use Rattle.built_values.specs.Operations.{Outcome, is_true, equal, less, less_or_equal}
 use Rattle.source_meaning.specs.Steps as source
-use Rattle.machine_meaning.specs.declared.code.Constant.{Constant}
-use Rattle.machine_meaning.specs.States.{Registers, put}
+use Rattle.source_meaning.specs.States.{Environment, Frame, LeftOperand, RightOperand, Restores, Focus, Evaluate, Give, Execute, ExecuteAll, Done, State}
+use Rattle.source_meaning.specs.Levels.{ExprLevel, StatLevel}
 use Rattle.machine_meaning.specs.States as states
 use Rattle.machine_meaning.specs.Steps as machine
-use Rattle.emit_stat.specs.Names.{register_of, names_beyond, names_after}
+use Rattle.machine_meaning.specs.declared.code.Constant.{Constant}
+use Rattle.machine_meaning.specs.States.{Registers}
+use Rattle.emit_stat.specs.Names.{names_after, names_beyond}
 use Rattle.emit_stat.specs.Operations.{operation, unless}
-use Rattle.emit_stat.specs.Code.{IsNumberCode, IsValueCode, IsTestCode, IsPrintCode, IsStatementCode, IsBlockCode, branch, branches, loop}
+use Rattle.emit_stat.specs.Code.{IsTestCode, IsNumberCode, IsValueCode}
+use Rattle.emit_stat.proofs.Reading.{Reads, split, split_insns, ahead, same_place}
 use Rattle.emit_stat.proofs.NewestNames.{as_newest}
-use Rattle.emit_stat.proofs.Locals.{Locals, Temporaries, Fits, Since, read, read_none, locals_declare, locals_assign, locals_before, since_on, fits_push, fits_pop, fits_newest}
-use Rattle.emit_stat.proofs.Reading.{Reads, split, split_insns, on, ahead, same_place}
+use Rattle.emit_stat.proofs.Locals.{Locals, read, Temporaries, Fits, fits_push, fits_pop, fits_newest, Since}
 
 -- ---- one level of a node
 
@@ -57,7 +53,7 @@ begun s l k env cells h = ap (λ x. source.begin_stat x k env cells) h
 -- ---- comparisons
 
 -- what a comparison answers
-holds : BinOp → Value → Value → Option Bool
+pub holds : BinOp → Value → Value → Option Bool
 holds op.Eq v w = equal v w
 holds op.Ne v w = option_map not (equal v w)
 holds op.Lt v w = less v w
@@ -115,7 +111,7 @@ truth_of b = refl
 -- ---- the names in scope after a statement
 
 -- where it is opened so
-names_are : (names : List StrId) (s : Stat) (l : StatLevel) → out-StatKind s.kind ≡ l → names_after names s ≡ names_beyond l names
+pub names_are : (names : List StrId) (s : Stat) (l : StatLevel) → out-StatKind s.kind ≡ l → names_after names s ≡ names_beyond l names
 names_are names s l h = ap (λ l. names_beyond l names) h
 
 module _ (words : List ℕ) (ks : List Constant) (place : ℕ → Option ℕ) where
@@ -156,7 +152,7 @@ module _ (words : List ℕ) (ks : List Constant) (place : ℕ → Option ℕ) wh
       (left' : ℕ) → left' ≤ left → (v : Value) (cells : List Value) (regs : Registers) → Fits cells regs env names (v ∷ temps) →
       Same left' (Give v) k env cells to regs
 
-  number_same : (names : List StrId) (to : ℕ) (v : ℤ) (is : List Instruction) → IsNumberCode ks to v is → (temps : List Value) →
+  pub number_same : (names : List StrId) (to : ℕ) (v : ℤ) (is : List Instruction) → IsNumberCode ks to v is → (temps : List Value) →
       length names + length temps ≡ to → (from next : ℕ) → Reads words place from (map item.Insn is) next →
       (left : ℕ) (k : List Frame) (env : Environment) → WithValue left env names temps k next → (cells : List Value) (regs : Registers) →
       Fits cells regs env names temps → Same left (Give (value.Number v)) k env cells from regs
@@ -250,7 +246,7 @@ module _ (words : List ℕ) (ks : List Constant) (place : ℕ → Option ℕ) wh
       (left : ℕ) (k : List Frame) (env : Environment) → WithAnswer left env names k true to → WithAnswer left env names k false out →
       (cells : List Value) (regs : Registers) → Locals cells regs env names → Same left (Evaluate cond) k env cells from regs
 
-  compare : (o : Option Bool) (op : BinOp) (names : List StrId) (i : Instruction) (from next out : ℕ) (by : ℤ) →
+  pub compare : (o : Option Bool) (op : BinOp) (names : List StrId) (i : Instruction) (from next out : ℕ) (by : ℤ) →
       insn_at words from ≡ Some (i, next) → pos (from + 1) +ℤ by ≡ pos out → from + 1 ≤ out →
       (left : ℕ) (k : List Frame) (env : Environment) → WithAnswer left env names k true next → WithAnswer left env names k false out →
       (v w : Value) (cells : List Value) (regs : Registers) → Locals cells regs env names → source.result_of op v w ≡ source.truth o →
@@ -318,272 +314,7 @@ module _ (words : List ℕ) (ks : List Constant) (place : ℕ → Option ℕ) wh
       (left : ℕ) (k : List Frame) (env : Environment) → Back left env names k to → (cells : List Value) (regs : Registers) →
       Locals cells regs env names → Same left (ExecuteAll ss) (Restores env ∷ k) env cells from regs
 
-  unchanged : (left : ℕ) (env : Environment) (names : List StrId) (s : Stat) (k : List Frame) (to : ℕ) → names_after names s ≡ names →
+  pub unchanged : (left : ℕ) (env : Environment) (names : List StrId) (s : Stat) (k : List Frame) (to : ℕ) → names_after names s ≡ names →
       Afterwards left env names (names_after names s) k to → Back left env names k to
   unchanged left env names s k to e go left' le cells regs ls =
       go left' le env cells regs (subst (λ ns. Locals cells regs env ns) (sym e) ls) (subst (λ ns. Since env ns env names) (sym e) (Since.unchanged env names))
-
-  declare_same : (names : List StrId) (s : Stat) (x : StrId) (e : Expr) (is : List Instruction) → s.kind ≡ stat.Local (x ∷ []) (e ∷ []) →
-      IsValueCode ks names (length names) e is → (from to : ℕ) → Reads words place from (map item.Insn is) to →
-      (left : ℕ) (k : List Frame) (env : Environment) → Afterwards left env names (names_after names s) k to →
-      (cells : List Value) (regs : Registers) → Locals cells regs env names → Same left (Execute s) k env cells from regs
-  declare_same names s x e is h code from to r left k env go cells regs ls =
-      let opens : out-StatKind s.kind ≡ level.Local (x ∷ []) (e ∷ []) = ap out-StatKind h ∙ views.outs-Local (x ∷ []) (e ∷ []) in
-      let after : names_after names s ≡ x ∷ names = names_are names s _ opens in
-      by_source left _ (Evaluate e) k (Declares x ∷ k) env env cells cells from regs (begun s _ k env cells opens)
-      (expr_same names (length names) e is code [] (omega arith) from to r left (Declares x ∷ k) env
-      (λ left1 le1 v cells1 regs1 fits1.
-      by_source left1 _ Done _ k env ((x, length cells1) ∷ env) cells1 (cells1 ++ v ∷ []) to regs1 refl
-      (go left1 le1 ((x, length cells1) ∷ env) (cells1 ++ v ∷ []) regs1
-      (subst (λ ns. Locals (cells1 ++ v ∷ []) regs1 ((x, length cells1) ∷ env) ns) (sym after)
-      (locals_declare cells1 regs1 env names x v (ap regs1 (omega arith) ∙ fits_newest cells1 regs1 env names v [] fits1) fits1.locals))
-      (subst (λ ns. Since ((x, length cells1) ∷ env) ns env names) (sym after) (Since.one x (length cells1) env names env names (Since.unchanged env names)))))
-      cells regs (record { locals = ls; temporaries = Temporaries.none }))
-
-  assign_same : (names : List StrId) (s : Stat) (target e : Expr) (x : StrId) (reg : ℕ) (is : List Instruction) →
-      s.kind ≡ stat.Assign (target ∷ []) (e ∷ []) → target.kind ≡ expr.Name x → register_of names x ≡ Some reg →
-      IsValueCode ks names (length names) e is → (from to : ℕ) →
-      Reads words place from (map item.Insn (is ++ insn.Move reg (length names) ∷ [])) to →
-      (left : ℕ) (k : List Frame) (env : Environment) → Afterwards left env names (names_after names s) k to →
-      (cells : List Value) (regs : Registers) → Locals cells regs env names → Same left (Execute s) k env cells from regs
-  assign_same names s target e x reg is h t there code from to r left k env go cells regs ls =
-      let opens : out-StatKind s.kind ≡ level.Assign (target ∷ []) (e ∷ []) = ap out-StatKind h ∙ views.outs-Assign (target ∷ []) (e ∷ []) in
-      let p = split_insns words place is (insn.Move reg (length names) ∷ []) from to r in
-      by_source left _ (Evaluate e) k (Assigns x ∷ k) env env cells cells from regs
-      (begun s _ k env cells opens ∙ ap (λ l. source.begin_assignment l e k env cells) (ap out-ExprKind t ∙ views.outs-Name x))
-      (expr_same names (length names) e is code [] (omega arith) from p.0 p.1 left (Assigns x ∷ k) env
-      (λ left1 le1 v cells1 regs1 fits1.
-      let register = as_newest names x (Some reg) there in
-      let l = read cells1 regs1 env names x reg fits1.locals register in
-      let value : regs1 (length names) ≡ v = ap regs1 (omega arith) ∙ fits_newest cells1 regs1 env names v [] fits1 in
-      by_source left1 _ Done _ k env env cells1 (slice_set cells1 l.cell v) p.0 regs1 (ap (λ o. source.assign o v k env cells1) l.found)
-      (by_machine left1 _ k env (slice_set cells1 l.cell v) p.0 _ _ regs1 (put regs1 reg v) _ p.2.0 (ap (λ u. machine.at (p.0 + 1) (put regs1 reg u)) value)
-      (at_place left1 _ k env (slice_set cells1 l.cell v) (p.0 + 1) to _ p.2.1
-      (unchanged left env names s k to (names_are names s _ opens) go left1 le1 (slice_set cells1 l.cell v) (put regs1 reg v)
-      (locals_assign cells1 regs1 env names x l.cell reg v l.found register fits1.locals)))))
-      cells regs (record { locals = ls; temporaries = Temporaries.none }))
-
-  -- a call of `print` on the two newest temporaries
-  show : (o : Option (List ℕ)) (names : List StrId) (from to : ℕ) → insn_at words from ≡ Some (insn.Call (length names) 2 1, to) →
-      (left : ℕ) (k : List Frame) (env : Environment) → Back left env names k to → (v : Value) (cells : List Value) (regs : Registers) →
-      Locals cells regs env names → printed v ≡ o → machine.row ks (insn.Call (length names) 2 1) from to regs ≡ machine.shows o to regs →
-      Same left (Give v) (Argument value.Print ∷ Discards ∷ k) env cells from regs
-  show None names from to r left k env go v cells regs ls e d =
-      both_end left _ _ env cells from to regs _ Stuck (ap (λ o. source.shows o (Discards ∷ k) env cells) e) r d
-  show (Some text) names from to r left k env go v cells regs ls e d =
-      together.both_show _ _ _ _ _ _ _ _ _ (ap (λ o. source.shows o (Discards ∷ k) env cells) e) (ap (λ o. machine.act ks o from regs) r ∙ d) refl
-      (by_source left _ Done _ k env env cells cells to regs refl
-      (go left (omega arith) cells regs ls))
-
-  print_same : (names : List StrId) (s : Stat) (call : Expr) (is : List Instruction) → s.kind ≡ stat.Call call →
-      IsPrintCode ks names call is → (from to : ℕ) → Reads words place from (map item.Insn is) to →
-      (left : ℕ) (k : List Frame) (env : Environment) → Back left env names k to → (cells : List Value) (regs : Registers) →
-      Locals cells regs env names → Same left (Execute s) k env cells from regs
-  print_same names s call _ h (IsPrintCode.print callee e c is called named free constant code) from to r left k env go cells regs ls =
-      let n = length names in
-      let opens : out-ExprKind call.kind ≡ level.ExprKind::Call callee (e ∷ []) = ap out-ExprKind called ∙ views.outs-ExprKind::Call callee (e ∷ []) in
-      let p = split_insns words place is (insn.Call n 2 1 ∷ []) _ to r.1 in
-      by_source left _ (Evaluate call) k (Discards ∷ k) env env cells cells from regs
-      (begun s _ k env cells (ap out-StatKind h ∙ views.outs-StatKind::Call call))
-      (by_source left _ (Evaluate callee) _ (Callee e ∷ Discards ∷ k) env env cells cells from regs (opened call _ (Discards ∷ k) env cells opens)
-      (by_source left _ (Give value.Print) _ (Callee e ∷ Discards ∷ k) env env cells cells from regs
-      (opened callee (level.Name print_name) (Callee e ∷ Discards ∷ k) env cells (ap out-ExprKind named ∙ views.outs-Name print_name)
-      ∙ ap (λ o. source.named o print_name (Callee e ∷ Discards ∷ k) env cells)
-      (read_none cells regs env names print_name ls (as_newest names print_name None free)))
-      (by_source left _ (Evaluate e) _ (Argument value.Print ∷ Discards ∷ k) env env cells cells from regs refl
-      (by_machine left _ (Argument value.Print ∷ Discards ∷ k) env cells from _ _ regs (put regs n value.Print) _ r.0
-      (ap (λ o. machine.fetch o n (from + length (encoded (insn.GetGlobal n c))) regs) constant)
-      (expr_same names (n + 1) e is code (value.Print ∷ []) (omega arith) _ p.0 p.1 left (Argument value.Print ∷ Discards ∷ k) env
-      (λ left1 le1 v cells1 regs1 fits1.
-      let at = second_newest names [] n (omega arith) value.Print v cells1 regs1 env fits1 in
-      show (printed v) names p.0 to (p.2.0 ∙ ap (λ q. Some (insn.Call n 2 1, q)) p.2.1) left1 k env
-      (λ left2 le2. go left2 (omega (arith, le1, le2))) v cells1 regs1 fits1.locals refl
-      (ap (λ u. machine.call u (regs1 (n + 1)) true true to regs1) at.0 ∙ ap (λ u. machine.shows (printed u) to regs1) at.1))
-      cells _ (fits_push cells regs env names [] n value.Print (omega arith) (record { locals = ls; temporaries = Temporaries.none })))))))
-
-  -- a branch without a block of `else`
-  choose_same : (names : List StrId) (s : Stat) (arm : Arm) (over : ℕ) (cond body : List Item) → s.kind ≡ stat.If (arm ∷ []) None →
-      IsTestCode ks names over (out-Arm arm).cond cond → (from to : ℕ) → Reads words place from (branch over cond body) to →
-      ((from to : ℕ) → Reads words place from body to → BlockRuns (out-Arm arm).body names from to) →
-      (left : ℕ) (k : List Frame) (env : Environment) → Back left env names k to → (cells : List Value) (regs : Registers) →
-      Locals cells regs env names → Same left (Execute s) k env cells from regs
-  choose_same names s arm over cond body h code from to r runs left k env go cells regs ls =
-      let p = split words place cond _ from to r in
-      let q = split words place body _ p.0 to p.2 in
-      let later = on words place body p.0 q.0 q.1 in
-      by_source left _ (Choose (arm ∷ []) None) k k env env cells cells from regs
-      (begun s _ k env cells (ap out-StatKind h ∙ views.outs-StatKind::If (arm ∷ []) None))
-      (by_source left _ (Evaluate (out-Arm arm).cond) k (Chooses (out-Arm arm).body [] None ∷ k) env env cells cells from regs refl
-      (condition_same names over (out-Arm arm).cond cond code from p.0 q.0 p.1 q.2.0 later left (Chooses (out-Arm arm).body [] None ∷ k) env
-      (λ left1 le1 cells1 regs1 ls1.
-      by_source left1 _ (ExecuteAll (out-Arm arm).body) _ (Restores env ∷ k) env env cells1 cells1 p.0 regs1
-      (ap (λ b. source.chosen b (out-Arm arm).body [] None k env cells1) (truth_of true))
-      (runs p.0 q.0 q.1 left1 k env
-      (λ left2 le2 cells2 regs2 ls2.
-      at_place left2 _ k env cells2 q.0 to regs2 q.2.1 (go left2 (omega (arith, le1, le2)) cells2 regs2 ls2))
-      cells1 regs1 ls1))
-      (λ left1 le1 cells1 regs1 ls1.
-      by_source left1 _ (Choose [] None) _ k env env cells1 cells1 q.0 regs1
-      (ap (λ b. source.chosen b (out-Arm arm).body [] None k env cells1) (truth_of false))
-      (by_source left1 _ Done k k env env cells1 cells1 q.0 regs1 refl
-      (at_place left1 _ k env cells1 q.0 to regs1 q.2.1 (go left1 le1 cells1 regs1 ls1))))
-      cells regs ls))
-
-  -- a branch with a block of `else`
-  decide_same : (names : List StrId) (s : Stat) (arm : Arm) (others : List Stat) (to_other over : ℕ) (cond body other : List Item) →
-      s.kind ≡ stat.If (arm ∷ []) (Some others) → IsTestCode ks names to_other (out-Arm arm).cond cond → (from to : ℕ) →
-      Reads words place from (branches to_other over cond body other) to →
-      ((from to : ℕ) → Reads words place from body to → BlockRuns (out-Arm arm).body names from to) →
-      ((from to : ℕ) → Reads words place from other to → BlockRuns others names from to) →
-      (left : ℕ) (k : List Frame) (env : Environment) → Back left env names k to → (cells : List Value) (regs : Registers) →
-      Locals cells regs env names → Same left (Execute s) k env cells from regs
-  decide_same names s arm others to_other over cond body other h code from to r runs others_run left k env go cells regs ls =
-      let p = split words place cond _ from to r in
-      let q = split words place body _ p.0 to p.2 in
-      let jump = q.2.0 in
-      let behind = q.0 + length (encoded (insn.Jump (pos 0))) in
-      let t = split words place other _ behind to q.2.1.1 in
-      let later = on words place body p.0 q.0 q.1 in
-      let last = on words place other behind t.0 t.1 in
-      let end : jump.target ≡ t.0 = same_place (place over) jump.target t.0 jump.placed t.2.0 in
-      by_source left _ (Choose (arm ∷ []) (Some others)) k k env env cells cells from regs
-      (begun s _ k env cells (ap out-StatKind h ∙ views.outs-StatKind::If (arm ∷ []) (Some others)))
-      (by_source left _ (Evaluate (out-Arm arm).cond) k (Chooses (out-Arm arm).body [] (Some others) ∷ k) env env cells cells from regs refl
-      (condition_same names to_other (out-Arm arm).cond cond code from p.0 behind p.1 q.2.1.0 (omega (arith, later)) left
-      (Chooses (out-Arm arm).body [] (Some others) ∷ k) env
-      (λ left1 le1 cells1 regs1 ls1.
-      by_source left1 _ (ExecuteAll (out-Arm arm).body) _ (Restores env ∷ k) env env cells1 cells1 p.0 regs1
-      (ap (λ b. source.chosen b (out-Arm arm).body [] (Some others) k env cells1) (truth_of true))
-      (runs p.0 q.0 q.1 left1 k env
-      (λ left2 le2 cells2 regs2 ls2.
-      by_machine left2 _ k env cells2 q.0 _ t.0 regs2 regs2 _ jump.read
-      (ahead jump.by q.0 t.0 regs2 (jump.reaches ∙ ap (λ n. pos n) end) (omega (arith, last)))
-      (at_place left2 _ k env cells2 t.0 to regs2 t.2.1 (go left2 (omega (arith, le1, le2)) cells2 regs2 ls2)))
-      cells1 regs1 ls1))
-      (λ left1 le1 cells1 regs1 ls1.
-      by_source left1 _ (Choose [] (Some others)) _ k env env cells1 cells1 behind regs1
-      (ap (λ b. source.chosen b (out-Arm arm).body [] (Some others) k env cells1) (truth_of false))
-      (by_source left1 _ (ExecuteAll others) k (Restores env ∷ k) env env cells1 cells1 behind regs1 refl
-      (others_run behind t.0 t.1 left1 k env
-      (λ left2 le2 cells2 regs2 ls2.
-      at_place left2 _ k env cells2 t.0 to regs2 t.2.1 (go left2 (omega (arith, le1, le2)) cells2 regs2 ls2))
-      cells1 regs1 ls1)))
-      cells regs ls))
-
-  -- a turn of a loop, and the turns after it: there are no more than are left
-  turns_same : (cond : Expr) (stats : List Stat) (names : List StrId) (from body back out : ℕ) (by : ℤ) →
-      ConditionRuns cond names from body out → BlockRuns stats names body back → insn_at words back ≡ Some (insn.JumpBack by, out) →
-      pos (back + 1) +ℤ by ≡ pos from → (bound left : ℕ) → left < bound → (k : List Frame) (env : Environment) →
-      Back left env names k out → (cells : List Value) (regs : Registers) → Locals cells regs env names →
-      Same left (Evaluate cond) (Loops cond stats ∷ k) env cells from regs
-  turns_same cond stats names from body back out by asks runs h reaches zero left lt k env go cells regs ls = absurd (omega (arith, lt))
-  turns_same cond stats names from body back out by asks runs h reaches (suc bound) left lt k env go cells regs ls =
-      asks left (Loops cond stats ∷ k) env
-      (λ left1 le1 cells1 regs1 ls1.
-      by_source left1 _ (ExecuteAll stats) _ (Restores env ∷ Repeats cond stats ∷ k) env env cells1 cells1 body regs1
-      (ap (λ b. source.looped b cond stats k env cells1) (truth_of true))
-      (runs left1 (Repeats cond stats ∷ k) env
-      (λ left2 le2 cells2 regs2 ls2.
-      together.both_charge _ _ _ _ _ _ _ _ _ left2 refl
-      (ap (λ o. machine.act ks o back regs2) h ∙ ap (λ z. machine.charge z regs2) reaches)
-      (λ fewer e. turns_same cond stats names from body back out by asks runs h reaches bound fewer (omega (arith, lt, le1, le2, e)) k env
-      (λ left3 le3. go left3 (omega (arith, le1, le2, le3, e))) cells2 regs2 ls2))
-      cells1 regs1 ls1))
-      (λ left1 le1 cells1 regs1 ls1.
-      by_source left1 _ Done _ k env env cells1 cells1 out regs1 (ap (λ b. source.looped b cond stats k env cells1) (truth_of false))
-      (go left1 le1 cells1 regs1 ls1))
-      cells regs ls
-
-  loop_same : (names : List StrId) (s : Stat) (condition : Expr) (stats : List Stat) (start over : ℕ) (cond body : List Item) →
-      s.kind ≡ stat.While condition stats → IsTestCode ks names over condition cond → (from to : ℕ) →
-      Reads words place from (loop start over cond body) to →
-      ((from to : ℕ) → Reads words place from body to → BlockRuns stats names from to) → (left : ℕ) (k : List Frame) (env : Environment) →
-      Back left env names k to → (cells : List Value) (regs : Registers) → Locals cells regs env names → Same left (Execute s) k env cells from regs
-  loop_same names s condition stats start over cond body h code from to r runs left k env go cells regs ls =
-      let p = split words place cond _ from to r.1 in
-      let q = split words place body _ p.0 to p.2 in
-      let jump = q.2.0 in
-      let behind = q.0 + length (encoded (insn.JumpBack (pos 0))) in
-      let begin : jump.target ≡ from = same_place (place start) jump.target from jump.placed r.0 in
-      let later = on words place body p.0 q.0 q.1 in
-      by_source left _ (Evaluate condition) k (Loops condition stats ∷ k) env env cells cells from regs
-      (begun s _ k env cells (ap out-StatKind h ∙ views.outs-While condition stats))
-      (turns_same condition stats names from p.0 q.0 behind jump.by
-      (condition_same names over condition cond code from p.0 behind p.1 q.2.1.0 (omega (arith, later)))
-      (runs p.0 q.0 q.1)
-      jump.read
-      (jump.reaches ∙ ap (λ n. pos n) begin)
-      (suc left) left (omega arith) k env
-      (λ left1 le1 cells1 regs1 ls1. at_place left1 _ k env cells1 behind to regs1 q.2.1.1 (go left1 le1 cells1 regs1 ls1))
-      cells regs ls)
-
-  -- ---- blocks
-
-  -- what is to be shown of the rest, where the statements of a block are over
-  abbrev pub AfterAll : ℕ → Environment → List StrId → List Frame → ℕ → Type 0
-  AfterAll left env names k to =
-      (left' : ℕ) → left' ≤ left → (names' : List StrId) (env' : Environment) (cells : List Value) (regs : Registers) →
-      Locals cells regs env' names' → Since env' names' env names → Same left' Done k env' cells to regs
-
-  abbrev pub StatementsRun : List Stat → List StrId → (from to : ℕ) → Type 0
-  StatementsRun ss names from to =
-      (left : ℕ) (k : List Frame) (env : Environment) → AfterAll left env names k to → (cells : List Value) (regs : Registers) →
-      Locals cells regs env names → Same left (ExecuteAll ss) k env cells from regs
-
-  -- at the end of a block its variables are forgotten
-  as_block : (ss : List Stat) (names : List StrId) (from to : ℕ) → StatementsRun ss names from to → BlockRuns ss names from to
-  as_block ss names from to runs left k env go cells regs ls =
-      runs left (Restores env ∷ k) env
-      (λ left1 le1 names1 env1 cells1 regs1 ls1 since.
-      by_source left1 _ Done _ k env1 env cells1 cells1 to regs1 refl
-      (go left1 le1 cells1 regs1 (locals_before cells1 regs1 env1 names1 env names since ls1)))
-      cells regs ls
-
-  -- a statement without a new local
-  keeping : (left : ℕ) (env : Environment) (names : List StrId) (s : Stat) (l : StatLevel) (k : List Frame) (to : ℕ) →
-      out-StatKind s.kind ≡ l → names_beyond l names ≡ names → Afterwards left env names (names_after names s) k to → Back left env names k to
-  keeping left env names s l k to opens e go = unchanged left env names s k to (names_are names s l opens ∙ e) go
-
-  mutual
-    statement_same : (names : List StrId) (s : Stat) (items : List Item) → IsStatementCode ks names s items → (from to : ℕ) →
-        Reads words place from items to → (left : ℕ) (k : List Frame) (env : Environment) →
-        Afterwards left env names (names_after names s) k to → (cells : List Value) (regs : Registers) → Locals cells regs env names →
-        Same left (Execute s) k env cells from regs
-    statement_same _ _ _ (IsStatementCode.declares names s x e is h code) from to r left k env go cells regs ls =
-        declare_same names s x e is h code from to r left k env go cells regs ls
-    statement_same _ _ _ (IsStatementCode.assigns names s target e x reg is h t there code) from to r left k env go cells regs ls =
-        assign_same names s target e x reg is h t there code from to r left k env go cells regs ls
-    statement_same _ _ _ (IsStatementCode.prints names s call is h code) from to r left k env go cells regs ls =
-        print_same names s call is h code from to r left k env (keeping left env names s _ k to
-        (ap out-StatKind h ∙ views.outs-StatKind::Call call) refl go) cells regs ls
-    statement_same _ _ _ (IsStatementCode.chooses names s arm over cond body h cond_code body_code) from to r left k env go cells regs ls =
-        choose_same names s arm over cond body h cond_code from to r
-        (λ from' to' r'. as_block (out-Arm arm).body names from' to' (statements_same names (out-Arm arm).body body body_code from' to' r'))
-        left k env (keeping left env names s _ k to (ap out-StatKind h ∙ views.outs-StatKind::If (arm ∷ []) None) refl go) cells regs ls
-    statement_same _ _ _ (IsStatementCode.decides names s arm others to_other over cond body other h cond_code body_code other_code) from
-        to r left k env go cells regs ls =
-        decide_same names s arm others to_other over cond body other h cond_code from to r
-        (λ from' to' r'. as_block (out-Arm arm).body names from' to' (statements_same names (out-Arm arm).body body body_code from' to' r'))
-        (λ from' to' r'. as_block others names from' to' (statements_same names others other other_code from' to' r'))
-        left k env (keeping left env names s _ k to (ap out-StatKind h ∙ views.outs-StatKind::If (arm ∷ []) (Some others)) refl go) cells regs ls
-    statement_same _ _ _ (IsStatementCode.loops names s condition stats start over cond body h cond_code body_code) from to r left k env go cells regs ls =
-        loop_same names s condition stats start over cond body h cond_code from to r
-        (λ from' to' r'. as_block stats names from' to' (statements_same names stats body body_code from' to' r'))
-        left k env (keeping left env names s _ k to (ap out-StatKind h ∙ views.outs-While condition stats) refl go) cells regs ls
-
-    pub statements_same : (names : List StrId) (ss : List Stat) (items : List Item) → IsBlockCode ks names ss items → (from to : ℕ) →
-        Reads words place from items to → StatementsRun ss names from to
-    statements_same _ _ _ (IsBlockCode.nothing names) from to r left k env go cells regs ls =
-        by_source left _ Done k k env env cells cells from regs refl
-        (at_place left _ k env cells from to regs r (go left (omega arith) names env cells regs ls (Since.unchanged env names)))
-    statements_same _ _ _ (IsBlockCode.more names s ss is js code rest) from to r left k env go cells regs ls =
-        let p = split words place is js from to r in
-        by_source left _ (Execute s) k (Continues ss ∷ k) env env cells cells from regs refl
-        (statement_same names s is code from p.0 p.1 left (Continues ss ∷ k) env
-        (λ left1 le1 env1 cells1 regs1 ls1 since1.
-        by_source left1 _ (ExecuteAll ss) _ k env1 env1 cells1 cells1 p.0 regs1 refl
-        (statements_same (names_after names s) ss js rest p.0 to p.2 left1 k env1
-        (λ left2 le2 names2 env2 cells2 regs2 ls2 since2. go left2 (omega (arith, le1, le2)) names2 env2 cells2 regs2 ls2
-        (since_on env2 names2 env1 (names_after names s) env names since2 since1))
-        cells1 regs1 ls1))
-        cells regs ls)

@@ -1,17 +1,15 @@
 -- The labels of the code: each is placed once, and each branch leads to one that is placed.
-use Rattle.std.proofs.Common.{◌≡◌, ℕ, ◌+◌, ◌<◌, ◌≤◌, pos, Bool, true, false, List, [], ◌∷◌, ◌++◌, map, length, Option, Some, refl, sym, ap, subst, arith, nat_eq, IsSome, if◌then◌else◌}
+use Rattle.std.proofs.Common.{◌≡◌, List, map, Option, sym, ap, ℕ, ◌<◌, ◌≤◌, [], ◌∷◌, length, Bool, true, false, Some, refl, arith, ◌+◌, ◌++◌, subst, IsSome, nat_eq, if◌then◌else◌}
 use Rattle.std.specs.Prelude.{IsTrue}
 use Rattle.std.specs.List.{AllByRecursion, IsDistinct}
 use Rattle.std.proofs.lemmas.Bool.{eq-eqb}
 use Rattle.std.proofs.lemmas.Bool.Decides.{nat_tests}
 use Rattle.op_words.specs.declared.insn.Insn.{Insn}
-use Rattle.op_words.specs.declared.insn.Insn.TheVariants.{Jump, JumpBack}
 use Rattle.op_words.specs.Encoding.{encoded}
-use Rattle.code_link.specs.declared.item.Item.{Item}
 use Rattle.code_link.specs.declared.item.Item.TheVariants as item
+use Rattle.code_link.specs.declared.item.Item.{Item}
 use Rattle.code_link.specs.Labels.{is_jump, word_count, place_in, labels, AreJumps, IsLinkable}
-use Rattle.emit_stat.specs.Code.{branch, branches, loop}
-use Rattle.emit_stat.specs.Emitted.{placements, below, BranchesBelow, HasLabels}
+use Rattle.emit_stat.specs.Emitted.{HasLabels, placements, below, BranchesBelow}
 
 -- ---- one label
 pub below_zero : (l : ℕ) → below 0 l ≡ 0
@@ -20,7 +18,7 @@ below_zero l = grind (arith, nat_tests)
 pub one_more : (n l : ℕ) → (if nat_eq n l then 1 else 0) + below n l ≡ below (n + 1) l
 one_more n l = grind (arith, nat_tests)
 
-next_more : (n m l : ℕ) → m ≡ n + 1 → (if nat_eq n l then 1 else 0) + below n l ≡ below m l
+pub next_more : (n m l : ℕ) → m ≡ n + 1 → (if nat_eq n l then 1 else 0) + below n l ≡ below m l
 next_more n m l e = subst (λ k. (if nat_eq n l then 1 else 0) + below n l ≡ below k l) (sym e) (one_more n l)
 
 pub below_one : (n l : ℕ) → below n l ≤ 1
@@ -30,19 +28,19 @@ pub is_below : (n l : ℕ) → l < n → below n l ≡ 1
 is_below n l h = grind (arith, nat_tests)
 
 -- ---- pieces of code
-placements-append : (is js : List Item) (l : ℕ) → placements (is ++ js) l ≡ placements is l + placements js l
+pub placements-append : (is js : List Item) (l : ℕ) → placements (is ++ js) l ≡ placements is l + placements js l
 placements-append [] js l = omega arith
 placements-append (item.Insn i ∷ is) js l = placements-append is js l
 placements-append (item.Branch i m ∷ is) js l = placements-append is js l
 placements-append (item.Label m ∷ is) js l = omega (arith, placements-append is js l)
 
-branches-append : (n : ℕ) (is js : List Item) → BranchesBelow n is → BranchesBelow n js → BranchesBelow n (is ++ js)
+pub branches-append : (n : ℕ) (is js : List Item) → BranchesBelow n is → BranchesBelow n js → BranchesBelow n (is ++ js)
 branches-append n [] js p q = q
 branches-append n (item.Insn i ∷ is) js p q = branches-append n is js p q
 branches-append n (item.Branch i l ∷ is) js p q = (p.0, p.1, branches-append n is js p.2 q)
 branches-append n (item.Label l ∷ is) js p q = branches-append n is js p q
 
-branches_more : (n m : ℕ) (is : List Item) → n ≤ m → BranchesBelow n is → BranchesBelow m is
+pub branches_more : (n m : ℕ) (is : List Item) → n ≤ m → BranchesBelow n is → BranchesBelow m is
 branches_more n m [] le p = tt
 branches_more n m (item.Insn i ∷ is) le p = branches_more n m is le p
 branches_more n m (item.Branch i l ∷ is) le p = (p.0, omega (arith, p.1), branches_more n m is le p.2)
@@ -72,57 +70,6 @@ labels_on a b c is js p q = record {
 -- a branch to a label that there is
 pub labels_branch : (n label : ℕ) (i : Insn) → IsTrue (is_jump i) → label < n → HasLabels n n (item.Branch i label ∷ [])
 labels_branch n label i jump lt = record { rises = omega arith; placed = λ l. omega arith; branches = (jump, lt, tt) }
-
-pub branch_labels : (n j m : ℕ) (test body : List Item) → HasLabels (n + 1) j test → HasLabels j m body → HasLabels n m (branch n test body)
-branch_labels n j m test body t b =
-    let tail = item.Label n ∷ [] in
-    record {
-      rises = omega (arith, t.rises, b.rises);
-      placed = λ l. omega (arith, placements-append test (body ++ tail) l, placements-append body tail l, t.placed l, b.placed l, one_more n l);
-      branches = branches-append m test (body ++ tail) (branches_more j m test b.rises t.branches) (branches-append m body tail b.branches tt);
-    }
-
-pub branches_labels : (n j k m : ℕ) (test body other : List Item) → HasLabels (n + 2) j test → HasLabels j k body → HasLabels k m other →
-    HasLabels n m (branches n (n + 1) test body other)
-branches_labels n j k m test body other t b o =
-    let last = item.Label (n + 1) ∷ [] in
-    let tail = item.Branch (Jump (pos 0)) (n + 1) ∷ item.Label n ∷ (other ++ last) in
-    record {
-      rises = omega (arith, t.rises, b.rises, o.rises);
-      placed = λ l. omega (
-        arith,
-        placements-append test (body ++ tail) l,
-        placements-append body tail l,
-        placements-append other last l,
-        t.placed l,
-        b.placed l,
-        o.placed l,
-        one_more n l,
-        next_more (n + 1) (n + 2) l (omega arith),
-      );
-      branches = branches-append m test (body ++ tail) (branches_more j m test (omega (arith, b.rises, o.rises)) t.branches)
-          (branches-append m body tail (branches_more k m body o.rises b.branches)
-          (refl, omega (arith, t.rises, b.rises, o.rises), branches-append m other last o.branches tt));
-    }
-
-pub loop_labels : (n j m : ℕ) (test body : List Item) → HasLabels (n + 2) j test → HasLabels j m body → HasLabels n m (loop n (n + 1) test body)
-loop_labels n j m test body t b =
-    let tail = item.Branch (JumpBack (pos 0)) n ∷ item.Label (n + 1) ∷ [] in
-    record {
-      rises = omega (arith, t.rises, b.rises);
-      placed = λ l. omega (
-        arith,
-        placements-append test (body ++ tail) l,
-        placements-append body tail l,
-        t.placed l,
-        b.placed l,
-        one_more
-            n l,
-        next_more (n + 1) (n + 2) l (omega arith),
-      );
-      branches = branches-append m test (body ++ tail) (branches_more j m test b.rises t.branches)
-          (branches-append m body tail b.branches (refl, omega (arith, t.rises, b.rises), tt));
-    }
 
 -- ---- the whole code
 abbrev one_if : Bool → ℕ

@@ -20,3 +20,10 @@ pub mod BuiltNeeds
 pub mod BuiltNames
 pub mod BuiltTrees
 pub mod BuiltBlocks
+pub mod Holding
+pub mod Simulation
+pub mod Declarations
+pub mod Assignments
+pub mod Prints
+pub mod Branches
+pub mod Loops

@@ -1,7 +1,7 @@
 -- No node that is built is stuck, where its parts are not: its names are bound to numbers, and its operations have results or stop. As
 -- for the machine, it is shown of a node where it is shown of what follows.
-use Rattle.std.proofs.Common.{◌≡◌, ◌≢◌, ℕ, zero, suc, ◌-◌, ◌<◌, ◌≤◌, ℤ, ◌+ℤ◌, ◌-ℤ◌, ◌*ℤ◌, Bool, true, false, nat_eq, List, [], ◌∷◌, ◌++◌, length, Option, Some, None, Result, Ok, Err, refl, sym, ap, ◌∙◌, subst, arith, length-append, if◌then◌else◌, IsSome, ⊎_elim}
-use Rattle.std.specs.Prelude.{slice_index_or, slice_set, not, int_lt, int_le}
+use Rattle.std.proofs.Common.{◌≡◌, ℤ, List, sym, ap, ◌∙◌, ℕ, ◌<◌, ◌≤◌, [], ◌∷◌, length, Bool, true, false, Some, None, refl, arith, ◌++◌, subst, IsSome, Result, Ok, Err, nat_eq, if◌then◌else◌, zero, suc, ◌+ℤ◌, ◌≢◌, ◌-ℤ◌, ◌*ℤ◌, length-append, ⊎_elim}
+use Rattle.std.specs.Prelude.{slice_set, not, slice_index_or, int_lt, int_le}
 use Rattle.std.specs.Ordering.{int_eq}
 use Rattle.std.specs.Fmt.{signed_decimal}
 use Rattle.std.proofs.lemmas.List.{get_or-set_same, get_or-set_other, length-set}
@@ -11,35 +11,30 @@ use Rattle.std.proofs.Math.Seq.{get_or-append_seam}
 use Rattle.byte_text.specs.declared.fixed.StrId.{StrId}
 use Rattle.whole_num.specs.declared.arithmetic.Stop.{Stop}
 use Rattle.whole_num.specs.Whole.{within}
-use Rattle.syntax_tree.specs.declared.tree.Arm.{Arm, out-Arm}
-use Rattle.syntax_tree.specs.declared.tree.BinOp.{BinOp}
+use Rattle.syntax_tree.specs.declared.tree.ExprKind.TheOpen as level
 use Rattle.syntax_tree.specs.declared.tree.BinOp.TheVariants as op
+use Rattle.syntax_tree.specs.declared.tree.BinOp.{BinOp}
 use Rattle.syntax_tree.specs.declared.tree.Expr.{Expr}
 use Rattle.syntax_tree.specs.declared.tree.ExprKind.{out-ExprKind}
-use Rattle.syntax_tree.specs.declared.tree.ExprKind as expr
-use Rattle.syntax_tree.specs.declared.tree.ExprKind.TheOpen as level
-use Rattle.syntax_tree.specs.declared.tree.ExprKind.TheViews as views
 use Rattle.syntax_tree.specs.declared.tree.Stat.{Stat}
-use Rattle.syntax_tree.specs.declared.tree.StatKind as stat
 use Rattle.syntax_tree.specs.declared.tree.StatKind.{out-StatKind}
-use Rattle.built_values.specs.declared.value.Value.{Value}
 use Rattle.built_values.specs.declared.value.Value.TheVariants as value
+use Rattle.built_values.specs.declared.value.Value.{Value}
 use Rattle.built_values.specs.declared.end.End.{End}
-use Rattle.built_values.specs.declared.end.End.TheVariants.{Ended, Stopped, Unfinished, Stuck}
-use Rattle.built_values.specs.Runs.{Stamped, Report, Goes, Shows, Charges, Ends}
-use Rattle.built_values.specs.Operations.{Outcome, as_value, sum, difference, product, equal, less, less_or_equal, printed}
-use Rattle.built_values.specs.Globals.{print_name}
+use Rattle.built_values.specs.declared.end.End.TheVariants.{Stuck, Stopped, Ended, Unfinished}
+use Rattle.built_values.specs.Runs.{Ends, Stamped, Report, Goes, Shows, Charges}
+use Rattle.built_values.specs.Operations.{Outcome, printed, equal, less, less_or_equal, as_value, sum, difference, product}
 use Rattle.built_values.proofs.Runs.{one_report}
 use Rattle.built_values.proofs.Together.{Comes, comes_by}
-use Rattle.source_meaning.specs.Levels.{StatLevel}
-use Rattle.source_meaning.specs.States.{Environment, cell_of, Frame, LeftOperand, RightOperand, Callee, Argument, Discards, Declares, Assigns, Chooses, Loops, Repeats, Continues, Restores, Focus, Evaluate, Give, Execute, ExecuteAll, Choose, Done, State}
 use Rattle.source_meaning.specs.Steps as source
+use Rattle.source_meaning.specs.States.{Environment, Frame, LeftOperand, RightOperand, Continues, Restores, Focus, Evaluate, Give, Execute, ExecuteAll, Done, State, cell_of}
+use Rattle.source_meaning.specs.Levels.{StatLevel}
 use Rattle.source_meaning.specs.Runs.{start, SourceRun}
-use Rattle.emit_stat.specs.Names.{register_of, names_beyond, names_after}
+use Rattle.emit_stat.specs.Names.{names_after, names_beyond, register_of}
 use Rattle.emit_stat.specs.Operations.{operation, unless}
-use Rattle.emit_stat.proofs.NewestNames.{newest_register, as_newest, newest_some}
+use Rattle.emit_stat.proofs.Following.{opened}
+use Rattle.emit_stat.proofs.NewestNames.{newest_register, newest_some}
 use Rattle.emit_stat.proofs.Locals.{Since, since_on}
-use Rattle.emit_stat.proofs.Following.{opened, begun, truth_of}
 
 -- ---- runs that are not stuck
 
@@ -48,18 +43,18 @@ pub record Fine (left : ℕ) (s : State) : Type 0 where
   pub by : (spent : ℕ) (out : List (Stamped (List ℕ))) (notes : List source.Look) →
       (r : Report (List ℕ) source.Look) × Comes source.step left spent out notes s r × (r.end ≢ Stuck)
 
-goes : (left : ℕ) (s s' : State) → source.step s ≡ Goes [] s' → Fine left s' → Fine left s
+pub goes : (left : ℕ) (s s' : State) → source.step s ≡ Goes [] s' → Fine left s' → Fine left s
 goes left s s' e f = record {
   by = λ spent out notes. let o = f.by spent out (notes ++ []) in (o.0, comes_by source.step left spent out notes s o.0 (Goes [] s') e o.1, o.2);
 }
 
-shows : (left : ℕ) (s s' : State) (event : List ℕ) → source.step s ≡ Shows [] event s' → Fine left s' → Fine left s
+pub shows : (left : ℕ) (s s' : State) (event : List ℕ) → source.step s ≡ Shows [] event s' → Fine left s' → Fine left s
 shows left s s' event e f = record {
   by = λ spent out notes. let o = f.by spent (out ++ record { turns = spent; event = event } ∷ []) (notes ++ []) in
       (o.0, comes_by source.step left spent out notes s o.0 (Shows [] event s') e o.1, o.2);
 }
 
-charges : (left : ℕ) (s s' : State) → source.step s ≡ Charges s' → ((fewer : ℕ) → left ≡ suc fewer → Fine fewer s') → Fine left s
+pub charges : (left : ℕ) (s s' : State) → source.step s ≡ Charges s' → ((fewer : ℕ) → left ≡ suc fewer → Fine fewer s') → Fine left s
 charges zero s s' e f = record {
   by = λ spent out notes.
       let r : Report (List ℕ) source.Look = record { end = Unfinished; events = out; notes = notes } in
@@ -70,7 +65,7 @@ charges (suc left) s s' e f = record {
       (o.0, comes_by source.step (suc left) spent out notes s o.0 (Charges s') e o.1, o.2);
 }
 
-ends : (left : ℕ) (s : State) (end : End) → source.step s ≡ Ends [] end → end ≢ Stuck → Fine left s
+pub ends : (left : ℕ) (s : State) (end : End) → source.step s ≡ Ends [] end → end ≢ Stuck → Fine left s
 ends left s end e ne = record {
   by = λ spent out notes.
       let r : Report (List ℕ) source.Look = record { end = end; events = out; notes = notes ++ [] } in
@@ -90,7 +85,7 @@ pub data Bound (size : ℕ) : Environment → List StrId → Type 0 where
   none : Bound size [] []
   one : (x : StrId) (c : ℕ) (env : Environment) (names : List StrId) → c < size → Bound size env names → Bound size ((x, c) ∷ env) (x ∷ names)
 
-bound_more : (size more : ℕ) (env : Environment) (names : List StrId) → size ≤ more → Bound size env names → Bound more env names
+pub bound_more : (size more : ℕ) (env : Environment) (names : List StrId) → size ≤ more → Bound size env names → Bound more env names
 bound_more size more _ _ le Bound.none = Bound.none
 bound_more size more _ _ le (Bound.one x c env names lt b) = Bound.one x c env names (omega (arith, lt, le)) (bound_more size more env names le b)
 
@@ -99,7 +94,7 @@ pub record Sound (cells : List Value) (env : Environment) (names : List StrId) :
   pub numbers : AllNumbers cells
   pub bound : Bound (length cells) env names
 
-found : (size : ℕ) (env : Environment) (names : List StrId) (x : StrId) → Bound size env names → IsSome (newest_register names x) →
+pub found : (size : ℕ) (env : Environment) (names : List StrId) (x : StrId) → Bound size env names → IsSome (newest_register names x) →
     (c : ℕ) × (cell_of env x ≡ Some c) × (c < size)
 found size _ _ x Bound.none h = cc
 found size _ _ x (Bound.one y c env names lt b) h =
@@ -113,7 +108,7 @@ found size _ _ x (Bound.one y c env names lt b) h =
         let l = later (subst (λ b. IsSome (if b then Some (length names) else newest_register names x)) e h) in
         (l.0, ap (λ b. if b then Some c else cell_of env x) e ∙ l.1, l.2)
 
-unbound : (size : ℕ) (env : Environment) (names : List StrId) (x : StrId) → Bound size env names → newest_register names x ≡ None → cell_of env x ≡ None
+pub unbound : (size : ℕ) (env : Environment) (names : List StrId) (x : StrId) → Bound size env names → newest_register names x ≡ None → cell_of env x ≡ None
 unbound size _ _ x Bound.none h = refl
 unbound size _ _ x (Bound.one y c env names lt b) h =
     by_test (nat_eq y.0 x.0) refl (λ g. unbound size env names x b g) h
@@ -125,7 +120,7 @@ unbound size _ _ x (Bound.one y c env names lt b) h =
     by_test false e later h =
         ap (λ b. if b then Some c else cell_of env x) e ∙ later (ap (λ b. if b then Some (length names) else newest_register names x) (sym e) ∙ h)
 
-numbers_append : (cells : List Value) (v : Value) → IsNumber v → AllNumbers cells → AllNumbers (cells ++ v ∷ [])
+pub numbers_append : (cells : List Value) (v : Value) → IsNumber v → AllNumbers cells → AllNumbers (cells ++ v ∷ [])
 numbers_append cells v n all c lt =
     ⊎_elim
     (λ t. (n.0, ap (λ d. slice_index_or (cells ++ v ∷ []) d value.Nil) (sym t.1) ∙ get_or-append_seam cells v [] value.Nil ∙ n.1))
@@ -134,7 +129,7 @@ numbers_append cells v n all c lt =
     let there = all c below in (there.0, get_or-append cells (v ∷ []) value.Nil c below ∙ there.1))
     (eqb_tells (length cells) c)
 
-numbers_set : (cells : List Value) (d : ℕ) (v : Value) → IsNumber v → AllNumbers cells → AllNumbers (slice_set cells d v)
+pub numbers_set : (cells : List Value) (d : ℕ) (v : Value) → IsNumber v → AllNumbers cells → AllNumbers (slice_set cells d v)
 numbers_set cells d v n all c lt =
     let below : c < length cells = omega (arith, lt, length-set cells d v) in
     ⊎_elim
@@ -171,7 +166,7 @@ comparison_gives op.Gt v w h = (int_lt w v, refl)
 comparison_gives op.Ge v w h = (int_le w v, refl)
 comparison_gives _ v w h = cc
 
-printed_number : (n : ℤ) → printed (value.Number n) ≡ Some (signed_decimal n)
+pub printed_number : (n : ℤ) → printed (value.Number n) ≡ Some (signed_decimal n)
 unfolding printed
 printed_number n = refl
 
@@ -180,7 +175,7 @@ printed_number n = refl
 abbrev pub FineAt : ℕ → Focus → List Frame → Environment → List Value → Type 0
 FineAt left f k env cells = Fine left (record { focus = f; frames = k; env = env; cells = cells })
 
-by_step : (left : ℕ) (f f' : Focus) (k k' : List Frame) (env env' : Environment) (cells cells' : List Value) →
+pub by_step : (left : ℕ) (f f' : Focus) (k k' : List Frame) (env env' : Environment) (cells cells' : List Value) →
     source.row f k env cells ≡ source.now f' k' env' cells' → FineAt left f' k' env' cells' → FineAt left f k env cells
 by_step left f f' k k' env env' cells cells' e a = goes left _ _ e a
 
@@ -284,121 +279,12 @@ BlockFine names ss =
     FineAt left (ExecuteAll ss) (Restores env ∷ k) env cells
 
 -- a statement without a new local
-keeping : (left : ℕ) (names : List StrId) (s : Stat) (l : StatLevel) (env : Environment) (k : List Frame) → out-StatKind s.kind ≡ l →
+pub keeping : (left : ℕ) (names : List StrId) (s : Stat) (l : StatLevel) (env : Environment) (k : List Frame) → out-StatKind s.kind ≡ l →
     names_beyond l names ≡ names → FineAfter left env names (names_after names s) k → FineBack left names env k
 keeping left names s l env k opens e go left' le cells ok =
     let same : names_after names s ≡ names = ap (λ l. names_beyond l names) opens ∙ e in
     go left' le env cells (subst (λ ns. Sound cells env ns) (sym same) ok) (subst (λ ns. Since env ns env names) (sym same)
     (Since.unchanged env names))
-
--- a call of `print` with one argument
-pub print_fine : (names : List StrId) (s : Stat) (call callee argument : Expr) → out-StatKind s.kind ≡ level.StatKind::Call call →
-    out-ExprKind call.kind ≡ level.ExprKind::Call callee (argument ∷ []) → out-ExprKind callee.kind ≡ level.Name print_name →
-    register_of names print_name ≡ None → ValueFine names argument → StatementFine names s
-print_fine names s call callee argument h opens named free given left k env cells ok go =
-    let after = Argument value.Print ∷ Discards ∷ k in
-    by_step left _ (Evaluate call) k (Discards ∷ k) env env cells cells (begun s _ k env cells h)
-    (by_step left _ (Evaluate callee) _ (Callee argument ∷ Discards ∷ k) env env cells cells (opened call _ (Discards ∷ k) env cells opens)
-    (by_step left _ (Give value.Print) _ (Callee argument ∷ Discards ∷ k) env env cells cells
-    (opened callee (level.Name print_name) (Callee argument ∷ Discards ∷ k) env cells named
-    ∙ ap (λ o. source.named o print_name (Callee argument ∷ Discards ∷ k) env cells)
-    (unbound (length cells) env names print_name ok.bound (as_newest names print_name None free)))
-    (by_step left _ (Evaluate argument) _ after env env cells cells refl
-    (given left after env cells ok
-    (λ n. shows left _ _ (signed_decimal n) (ap (λ o. source.shows o (Discards ∷ k) env cells) (printed_number n))
-    (by_step left _ Done _ k env env cells cells refl (keeping left names s _ env k h refl go left (omega arith) cells ok)))))))
-
-pub declare_fine : (names : List StrId) (s : Stat) (x : StrId) (e : Expr) → out-StatKind s.kind ≡ level.Local (x ∷ []) (e ∷ []) →
-    ValueFine names e → StatementFine names s
-declare_fine names s x e opens given left k env cells ok go =
-    let after : names_after names s ≡ x ∷ names = ap (λ l. names_beyond l names) opens in
-    by_step left _ (Evaluate e) k (Declares x ∷ k) env env cells cells (begun s _ k env cells opens)
-    (given left (Declares x ∷ k) env cells ok
-    (λ n.
-    let more = cells ++ value.Number n ∷ [] in
-    let env' = (x, length cells) ∷ env in
-    by_step left _ Done _ k env env' cells more refl
-    (go left (omega arith) env' more
-    (subst (λ ns. Sound more env' ns) (sym after) (record {
-      numbers = numbers_append cells (value.Number n) (n, refl) ok.numbers;
-      bound = Bound.one x (length cells) env names (omega (arith, length-append cells (value.Number n ∷ []))) (bound_more (length cells)
-          (length more) env names (omega (arith, length-append cells (value.Number n ∷ []))) ok.bound);
-    }))
-    (subst (λ ns. Since env' ns env names) (sym after) (Since.one x (length cells) env names env names (Since.unchanged env names))))))
-
-pub assign_fine : (names : List StrId) (s : Stat) (target e : Expr) (x : StrId) →
-    out-StatKind s.kind ≡ level.Assign (target ∷ []) (e ∷ []) → out-ExprKind target.kind ≡ level.Name x → IsSome (register_of names x) →
-    ValueFine names e → StatementFine names s
-assign_fine names s target e x h t some given left k env cells ok go =
-    let l = found (length cells) env names x ok.bound (newest_some names x some) in
-    by_step left _ (Evaluate e) k (Assigns x ∷ k) env env cells cells
-    (begun s _ k env cells h ∙ ap (λ l. source.begin_assignment l e k env cells) t)
-    (given left (Assigns x ∷ k) env cells ok
-    (λ n.
-    let set = slice_set cells l.0 (value.Number n) in
-    let same : length set ≡ length cells = length-set cells l.0 (value.Number n) in
-    by_step left _ Done _ k env env cells set (ap (λ o. source.assign o (value.Number n) k env cells) l.1)
-    (keeping left names s _ env k h refl go left (omega arith) set (record {
-      numbers = numbers_set cells l.0 (value.Number n) (n, refl) ok.numbers;
-      bound = bound_more (length cells) (length set) env names (omega (arith, same)) ok.bound;
-    }))))
-
--- the block of `else`, if there is one
-abbrev pub OtherFine : List StrId → Option (List Stat) → Type 0
-OtherFine names None = Unit {0}
-OtherFine names (Some ss) = BlockFine names ss
-
-other_fine : (left : ℕ) (other : Option (List Stat)) (names : List StrId) → OtherFine names other → (k : List Frame) (env : Environment) →
-    FineBack left names env k → (cells : List Value) → Sound cells env names → FineAt left (Choose [] other) k env cells
-other_fine left None names runs k env go cells ok = by_step left _ Done k k env env cells cells refl (go left (omega arith) cells ok)
-other_fine left (Some ss) names runs k env go cells ok =
-    by_step left _ (ExecuteAll ss) k (Restores env ∷ k) env env cells cells refl (runs left k env go cells ok)
-
-pub choose_fine : (names : List StrId) (s : Stat) (arm : Arm) (other : Option (List Stat)) →
-    out-StatKind s.kind ≡ level.StatKind::If (arm ∷ []) other → ConditionFine names (out-Arm arm).cond → BlockFine names (out-Arm arm).body →
-    OtherFine names other → StatementFine names s
-choose_fine names s arm other h answered runs other_runs left k env cells ok after =
-    by_step left _ (Choose (arm ∷ []) other) k k env env cells cells (begun s _ k env cells h)
-    (by_step left _ (Evaluate (out-Arm arm).cond) k (Chooses (out-Arm arm).body [] other ∷ k) env env cells cells refl
-    (answered left (Chooses (out-Arm arm).body [] other ∷ k) env cells ok (λ b. chosen_fine b)))
-  where
-    go : FineBack left names env k
-    go = keeping left names s (level.StatKind::If (arm ∷ []) other) env k h refl after
-
-    chosen_fine : (b : Bool) → FineAt left (Give (value.Boolean b)) (Chooses (out-Arm arm).body [] other ∷ k) env cells
-    chosen_fine true =
-        by_step left _ (ExecuteAll (out-Arm arm).body) _ (Restores env ∷ k) env env cells cells
-        (ap (λ b. source.chosen b (out-Arm arm).body [] other k env cells) (truth_of true)) (runs left k env go cells ok)
-    chosen_fine false =
-        by_step left _ (Choose [] other) _ k env env cells cells (ap (λ b. source.chosen b (out-Arm arm).body [] other k env cells)
-        (truth_of false)) (other_fine left other names other_runs k env go cells ok)
-
-turns_fine : (cond : Expr) (stats : List Stat) (names : List StrId) → ConditionFine names cond → BlockFine names stats →
-    (bound left : ℕ) → left < bound → (k : List Frame) (env : Environment) → FineBack left names env k → (cells : List Value) →
-    Sound cells env names → FineAt left (Evaluate cond) (Loops cond stats ∷ k) env cells
-turns_fine cond stats names answered runs zero left lt k env go cells ok = absurd (omega (arith, lt))
-turns_fine cond stats names answered runs (suc bound) left lt k env go cells ok =
-    answered left (Loops cond stats ∷ k) env cells ok
-    (looped_fine (runs left (Repeats cond stats ∷ k) env
-    (λ left1 le1 cells1 ok1. charges left1 _ _ refl
-    (λ fewer e. turns_fine cond stats names answered runs bound fewer (omega (arith, lt, le1, e)) k env
-    (λ left2 le2. go left2 (omega (arith, le1, le2, e))) cells1 ok1))
-    cells ok))
-  where
-    looped_fine : FineAt left (ExecuteAll stats) (Restores env ∷ Repeats cond stats ∷ k) env cells → (b : Bool) →
-        FineAt left (Give (value.Boolean b)) (Loops cond stats ∷ k) env cells
-    looped_fine body true =
-        by_step left _ (ExecuteAll stats) _ (Restores env ∷ Repeats cond stats ∷ k) env env cells cells
-        (ap (λ b. source.looped b cond stats k env cells) (truth_of true)) body
-    looped_fine body false =
-        by_step left _ Done _ k env env cells cells (ap (λ b. source.looped b cond stats k env cells) (truth_of false))
-        (go left (omega arith) cells ok)
-
-pub loop_fine : (names : List StrId) (s : Stat) (cond : Expr) (body : List Stat) → out-StatKind s.kind ≡ level.While cond body →
-    ConditionFine names cond → BlockFine names body → StatementFine names s
-loop_fine names s cond body h answered runs left k env cells ok go =
-    by_step left _ (Evaluate cond) k (Loops cond body ∷ k) env env cells cells (begun s _ k env cells h)
-    (turns_fine cond body names answered runs (suc left) left (omega arith) k env (keeping left names s _ env k h refl go) cells ok)
 
 -- ---- blocks
 

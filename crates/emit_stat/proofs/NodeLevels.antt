@@ -1,22 +1,21 @@
 -- What a function of the tree gives at a node, by what it gives for the node's parts.
-use Rattle.std.proofs.Common.{◌≡◌, ℤ, List, map, Option, sym, ap, ◌∙◌, rules}
+use Rattle.std.proofs.Common.{rules, ◌≡◌, ℤ, map, sym, ap, ◌∙◌}
 use Rattle.byte_text.specs.declared.fixed.StrId.{StrId}
+use Rattle.syntax_tree.specs.declared.tree.ExprKind as expr
+use Rattle.syntax_tree.specs.declared.tree.ExprKind.TheFolds as folds
+use Rattle.syntax_tree.specs.declared.tree.ExprKind.TheOpen as level
+use Rattle.syntax_tree.specs.declared.tree.ExprKind.TheViews as views
 use Rattle.syntax_tree.specs.declared.tree.Arm.{Arm, out-Arm, roll-Arm}
 use Rattle.syntax_tree.specs.declared.tree.BinOp.{BinOp}
 use Rattle.syntax_tree.specs.declared.tree.Expr.{Expr, out-Expr}
 use Rattle.syntax_tree.specs.declared.tree.ExprArm.{ExprArm}
 use Rattle.syntax_tree.specs.declared.tree.ExprKind.{ExprKind, out-ExprKind, roll-ExprKind}
-use Rattle.syntax_tree.specs.declared.tree.ExprKind as expr
-use Rattle.syntax_tree.specs.declared.tree.ExprKind.TheFolds as folds
-use Rattle.syntax_tree.specs.declared.tree.ExprKind.TheOpen as level
 use Rattle.syntax_tree.specs.declared.tree.ExprKind.TheOpen.{ExprKind-F, StatKind-F}
-use Rattle.syntax_tree.specs.declared.tree.ExprKind.TheViews as views
 use Rattle.syntax_tree.specs.declared.tree.Field.{Field}
 use Rattle.syntax_tree.specs.declared.tree.FieldKind.{FieldKind}
 use Rattle.syntax_tree.specs.declared.tree.FuncBody.{FuncBody, out-FuncBody, roll-FuncBody}
 use Rattle.syntax_tree.specs.declared.tree.Stat.{Stat, out-Stat}
 use Rattle.syntax_tree.specs.declared.tree.StatKind.{StatKind, out-StatKind, roll-StatKind}
-use Rattle.syntax_tree.specs.declared.tree.StatKind as stat
 use Rattle.syntax_tree.specs.Fold.{Steps, at_arm, at_expr, at_expr_arm, at_field, at_func, at_stat}
 
 -- a node whose parts are nodes
@@ -77,10 +76,6 @@ module _ {K L M A E X F B S : Type 0} (s : Steps K L M A E X F B S) where
       at_expr s e ≡ s.expr (record { id = e.id; at = e.at; line = e.line; kind = s.kind (level.Binary op (at_expr s a) (at_expr s b)) })
   of_binary e a b op h = of_kind e (level.Binary op a b) (ap out-ExprKind h ∙ views.outs-Binary op a b)
 
-  pub of_call : (e f : Expr) (es : List Expr) → e.kind ≡ expr.Call f es →
-      at_expr s e ≡ s.expr (record { id = e.id; at = e.at; line = e.line; kind = s.kind (level.ExprKind::Call (at_expr s f) (map (at_expr s) es)) })
-  of_call e f es h = of_kind e (level.ExprKind::Call f es) (ap out-ExprKind h ∙ views.outs-ExprKind::Call f es)
-
   -- ---- statements
   pub of_stat_kind : (t : Stat) (l : StatKindNode) → out-StatKind t.kind ≡ l →
       at_stat s t ≡ s.stat (record { id = t.id; at = t.at; line = t.line; kind = s.stat_kind (stat_kind_level l) })
@@ -88,32 +83,6 @@ module _ {K L M A E X F B S : Type 0} (s : Steps K L M A E X F B S) where
       folds.fold-roll-Stat K L M A E X F B S s.kind s.field_kind s.stat_kind s.arm s.expr s.expr_arm s.field s.func s.stat (out-Stat t)
       ∙ ap (λ (k : M). s.stat (record { id = t.id; at = t.at; line = t.line; kind = k }))
       (stat_kind_is t.kind ∙ ap (λ (x : StatKindNode). s.stat_kind (stat_kind_level x)) h)
-
-  pub of_local : (t : Stat) (xs : List StrId) (es : List Expr) → t.kind ≡ stat.Local xs es →
-      at_stat s t ≡ s.stat (record { id = t.id; at = t.at; line = t.line; kind = s.stat_kind (level.Local xs (map (at_expr s) es)) })
-  of_local t xs es h = of_stat_kind t (level.Local xs es) (ap out-StatKind h ∙ views.outs-Local xs es)
-
-  pub of_assignment : (t : Stat) (ts es : List Expr) → t.kind ≡ stat.Assign ts es →
-      at_stat s t ≡ s.stat (record {
-        id = t.id;
-        at = t.at;
-        line = t.line;
-        kind = s.stat_kind
-            (level.Assign (map (at_expr s) ts) (map (at_expr s) es));
-      })
-  of_assignment t ts es h = of_stat_kind t (level.Assign ts es) (ap out-StatKind h ∙ views.outs-Assign ts es)
-
-  pub of_call_statement : (t : Stat) (call : Expr) → t.kind ≡ stat.Call call →
-      at_stat s t ≡ s.stat (record { id = t.id; at = t.at; line = t.line; kind = s.stat_kind (level.StatKind::Call (at_expr s call)) })
-  of_call_statement t call h = of_stat_kind t (level.StatKind::Call call) (ap out-StatKind h ∙ views.outs-StatKind::Call call)
-
-  pub of_branch : (t : Stat) (arms : List Arm) (other : Option (List Stat)) → t.kind ≡ stat.If arms other →
-      at_stat s t ≡ s.stat (record { id = t.id; at = t.at; line = t.line; kind = s.stat_kind (stat_kind_level (level.StatKind::If arms other)) })
-  of_branch t arms other h = of_stat_kind t (level.StatKind::If arms other) (ap out-StatKind h ∙ views.outs-StatKind::If arms other)
-
-  pub of_loop : (t : Stat) (cond : Expr) (body : List Stat) → t.kind ≡ stat.While cond body →
-      at_stat s t ≡ s.stat (record { id = t.id; at = t.at; line = t.line; kind = s.stat_kind (level.While (at_expr s cond) (map (at_stat s) body)) })
-  of_loop t cond body h = of_stat_kind t (level.While cond body) (ap out-StatKind h ∙ views.outs-While cond body)
 
   -- ---- conditions with their blocks, and functions
   pub of_arm : (a : Arm) → at_arm s a ≡ s.arm (record { cond = at_expr s (out-Arm a).cond; body = map (at_stat s) (out-Arm a).body })

@@ -1,5 +1,5 @@
 -- What names are bound to where they stand, and the registers of their locals.
-use Rattle.std.proofs.Common.{◌≡◌, ◌∙◌, ℕ, ◌<◌, ◌==◌, Bool, true, false, List, [], ◌∷◌, ◌++◌, length, reverse, Option, Some, None, IsSome, refl, sym, ap, ap₂, subst, rules, arith, if◌then◌else◌}
+use Rattle.std.proofs.Common.{◌≡◌, ◌∙◌, ℕ, ◌<◌, ◌==◌, Bool, true, false, List, [], ◌∷◌, length, reverse, Option, Some, None, IsSome, refl, sym, ap, ap₂, subst, rules, arith, if◌then◌else◌}
 use Rattle.std.specs.Prelude.{nat_lt}
 use Rattle.std.proofs.lemmas.Bool.{le-ltb, eq-eqb, ne_eqb}
 use Rattle.std.proofs.lemmas.List.{reverse-append}
@@ -11,7 +11,7 @@ use Rattle.syntax_tree.specs.declared.tree.Expr.{Expr}
 use Rattle.syntax_tree.specs.declared.tree.ExprKind.{out-ExprKind}
 use Rattle.syntax_tree.specs.declared.tree.ExprKind as expr_kind
 use Rattle.syntax_tree.specs.Numbers.{numbered}
-use Rattle.syntax_tree.specs.Scope.{look, unless_later, bound_in}
+use Rattle.syntax_tree.specs.Scope.{look, bound_in}
 use Rattle.scope_laws.specs.Sight.{Part, expr}
 use Rattle.scope_laws.proofs.Seen.{names_in_scope}
 use Rattle.emit_stat.specs.Names.{register_of}

@@ -13,7 +13,6 @@ use Rattle.syntax_tree.specs.declared.tree.ExprKind.TheOpen as level
 use Rattle.syntax_tree.specs.declared.tree.ExprKind.TheViews as views
 use Rattle.syntax_tree.specs.declared.tree.Stat.{Stat}
 use Rattle.syntax_tree.specs.declared.tree.StatKind.{out-StatKind}
-use Rattle.syntax_tree.specs.declared.tree.StatKind as stat_kind
 use Rattle.syntax_tree.specs.Lists.{or_zero}
 use Rattle.syntax_tree.specs.Numbers.{numbered}
 use Rattle.scope_laws.specs.Declares.{steps, declares_stat}
@@ -176,6 +175,11 @@ pub in_else : (b : Bindings) (vs : List Visible) (x : Stat) (after : List Part) 
     Stand b vs (stat x ∷ after) → out-StatKind x.kind ≡ level.StatKind::If (a ∷ []) (Some others) → Stand b vs (map stat others)
 in_else b vs x after a others s k =
     in_block b vs others [] (behind_quiet b vs (arm a) (block [] others ∷ []) (λ n. refl) (in_branch b vs x after (a ∷ []) (Some others) s k))
+
+-- a block as it is seen
+pub block_seen : (b : Bindings) (vs : List Visible) (body seen : List Stat) → seen ≡ body → Stand b vs (map stat body) →
+    Stand b vs (map stat seen)
+block_seen b vs body seen same s = subst (λ (l : List Stat). Stand b vs (map stat l)) (sym same) s
 
 -- ---- behind a statement
 

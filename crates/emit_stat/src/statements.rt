@@ -22,7 +22,7 @@ use syntax_tree::{BinOp, Bindings, Expr, ExprKind, Stat, StatKind, Visible};
 const PRINT: u32 = 0;
 
 // An assignment to a local. The value is put into the first free register, and copied.
-#[tactic(auto, using(crate::proofs::EmittedStatements::value_form, crate::proofs::EmittedStatements::emits_of_assignment))]
+#[tactic(auto, using(crate::proofs::Assignments::value_form, crate::proofs::Assignments::emits_of_assignment))]
 fn emit_assignment(
     code: &mut Draft,
     scope: &Scope,

@@ -8,10 +8,23 @@ use Rattle.emit_stat.specs.Form.{room, IsCondition, IsBlock}
 use Rattle.emit_stat.specs.Emitted.{EmitsBlock}
 use Rattle.emit_stat.specs.Size.{block_words}
 use Rattle.emit_stat.proofs.BuiltBlocks.{next_is}
-use Rattle.emit_stat.proofs.TreeForms.{OtherForm, more_registers, words_of_branch, words_of_branches, call_parts, branch_parts, loop_parts, first_statement, few_names}
-use Rattle.emit_stat.proofs.EmittedStatements.{declared, is_target, emits_of_local, assigned, emits_of_assigns, emits_of_call, chosen, emits_of_branch, two_labels, emits_of_branches, emits_of_loop, branch_ready, branches_ready, others_ready, loop_ready}
+use Rattle.emit_stat.proofs.Branches.{OtherForm, words_of_branch, words_of_branches, branch_parts}
+use Rattle.emit_stat.proofs.TreeForms.{more_registers, first_statement, few_names}
+use Rattle.emit_stat.proofs.Prints.{call_parts}
+use Rattle.emit_stat.proofs.Loops.{loop_parts}
+use Rattle.emit_stat.proofs.Declarations.{one_local, emits_of_local}
+use Rattle.emit_stat.proofs.Assignments.{is_target, one_assignment, emits_of_assigns}
+use Rattle.emit_stat.proofs.Prints.{emits_of_call}
+use Rattle.emit_stat.proofs.Branches.{one_branch, emits_of_branch, emits_of_branches, branch_ready, branches_ready, others_ready}
+use Rattle.emit_stat.proofs.EmittedStatements.{two_labels}
+use Rattle.emit_stat.proofs.Loops.{emits_of_loop, loop_ready}
 use Rattle.emit_stat.proofs.EmittedBlocks.{first_none, first_more, first_all}
-use Rattle.emit_stat.proofs.EmittedStands.{local_stands, assignment_stands, call_stands, condition_stands, arm_stands, else_stands, test_stands, body_stands, scope_none, scope_more, names_more}
+use Rattle.emit_stat.proofs.Declarations.{local_stands}
+use Rattle.emit_stat.proofs.Assignments.{assignment_stands}
+use Rattle.emit_stat.proofs.Prints.{call_stands}
+use Rattle.emit_stat.proofs.Branches.{condition_stands, arm_stands, else_stands}
+use Rattle.emit_stat.proofs.Loops.{test_stands, body_stands}
+use Rattle.emit_stat.proofs.EmittedStands.{scope_none, scope_more, names_more}
 use Rattle.emit_stat.proofs.statements.+statements.Goals as goal
 
 -- ---- blocks
@@ -65,7 +78,7 @@ emit_statement-emit_value-requires-clause-form t c =
     let b = c.args.bindings.now in
     let names = names_of c.args.scope.now in
     let e = c.index-as_slice-0.result in
-    let p = declared b names c.args.stat.now c.in-Local.names c.in-Local.values e c.requires.form c.in-Local.is (cc) in
+    let p = one_local b names c.args.stat.now c.in-Local.names c.in-Local.values e c.requires.form c.in-Local.is (cc) in
     more_registers b (room names 0) (256 - c.free_register-free.result) e (omega (arith, p.2.few, c.free_register-free.ensures)) p.2.form
 
 pub emit_statement-returns-in_ok-emit_value-in-Local-clause-code : goal.emit_statement-returns-in_ok-emit_value-in-Local-clause-code
@@ -73,7 +86,7 @@ emit_statement-returns-in_ok-emit_value-in-Local-clause-code t c =
     let b = c.args.bindings.now in
     let names = names_of c.args.scope.now in
     let e = c.index-as_slice-0.result in
-    let p = declared b names c.args.stat.now c.in-Local.names c.in-Local.values e c.requires.form c.in-Local.is (cc) in
+    let p = one_local b names c.args.stat.now c.in-Local.names c.in-Local.values e c.requires.form c.in-Local.is (cc) in
     emits_of_local b _ _ _ names c.args.stat.now p.0 e c.free_register-free.result p.2 c.free_register-free.ensures
     c.in_ok-emit_value-in-Local.ensures
 
@@ -90,21 +103,21 @@ emit_statement-returns-in-Assign-clause-code t c =
     let names = names_of c.args.scope.now in
     let target = c.index-as_slice-0-in-Assign.result in
     let e = c.index-as_slice-0-in-Assign-2.result in
-    let p = assigned c.args.bindings.now names c.args.stat.now c.in-Assign.targets c.in-Assign.values target e c.requires.form c.in-Assign.is (cc) (cc) in
+    let p = one_assignment c.args.bindings.now names c.args.stat.now c.in-Assign.targets c.in-Assign.values target e c.requires.form c.in-Assign.is (cc) (cc) in
     emits_of_assigns c.args.bindings.now _ _ _ names c.args.stat.now target e p c.emit_assignment.ensures
 
 pub emit_statement-emit_assignment-requires-clause-value : goal.emit_statement-emit_assignment-requires-clause-value
 emit_statement-emit_assignment-requires-clause-value t c =
     let target = c.index-as_slice-0-in-Assign.result in
     let e = c.index-as_slice-0-in-Assign-2.result in
-    (assigned c.args.bindings.now (names_of c.args.scope.now) c.args.stat.now c.in-Assign.targets c.in-Assign.values target e c.requires.form
+    (one_assignment c.args.bindings.now (names_of c.args.scope.now) c.args.stat.now c.in-Assign.targets c.in-Assign.values target e c.requires.form
     c.in-Assign.is (cc) (cc)).form
 
 pub emit_statement-emit_assignment-requires-clause-room : goal.emit_statement-emit_assignment-requires-clause-room
 emit_statement-emit_assignment-requires-clause-room t c =
     let target = c.index-as_slice-0-in-Assign.result in
     let e = c.index-as_slice-0-in-Assign-2.result in
-    let p = assigned c.args.bindings.now (names_of c.args.scope.now) c.args.stat.now c.in-Assign.targets c.in-Assign.values target e c.requires.form
+    let p = one_assignment c.args.bindings.now (names_of c.args.scope.now) c.args.stat.now c.in-Assign.targets c.in-Assign.values target e c.requires.form
     c.in-Assign.is (cc) (cc) in
     omega (arith, c.requires.room, p.words)
 
@@ -113,7 +126,7 @@ emit_statement-emit_value-requires-clause-stands t c =
     let b = c.args.bindings.now in
     let vs = c.args.scope.now in
     let e = c.index-as_slice-0.result in
-    let p = declared b (names_of vs) c.args.stat.now c.in-Local.names c.in-Local.values e c.requires.form c.in-Local.is (cc) in
+    let p = one_local b (names_of vs) c.args.stat.now c.in-Local.names c.in-Local.values e c.requires.form c.in-Local.is (cc) in
     local_stands b vs c.args.stat.now c.requires.stands p.0 e p.2.kind
 
 pub emit_statement-emit_assignment-requires-clause-stand : goal.emit_statement-emit_assignment-requires-clause-stand
@@ -122,7 +135,7 @@ emit_statement-emit_assignment-requires-clause-stand t c =
     let vs = c.args.scope.now in
     let target = c.index-as_slice-0-in-Assign.result in
     let e = c.index-as_slice-0-in-Assign-2.result in
-    let p = assigned b (names_of vs) c.args.stat.now c.in-Assign.targets c.in-Assign.values target e c.requires.form c.in-Assign.is (cc) (cc) in
+    let p = one_assignment b (names_of vs) c.args.stat.now c.in-Assign.targets c.in-Assign.values target e c.requires.form c.in-Assign.is (cc) (cc) in
     assignment_stands b vs c.args.stat.now c.requires.stands target e p.kind
 
 pub emit_statement-emit_assignment-requires-clause-target : goal.emit_statement-emit_assignment-requires-clause-target
@@ -131,7 +144,7 @@ emit_statement-emit_assignment-requires-clause-target t c =
     let vs = c.args.scope.now in
     let target = c.index-as_slice-0-in-Assign.result in
     let e = c.index-as_slice-0-in-Assign-2.result in
-    let p = assigned b (names_of vs) c.args.stat.now c.in-Assign.targets c.in-Assign.values target e c.requires.form c.in-Assign.is (cc) (cc) in
+    let p = one_assignment b (names_of vs) c.args.stat.now c.in-Assign.targets c.in-Assign.values target e c.requires.form c.in-Assign.is (cc) (cc) in
     is_target b vs target (sight.expr e ∷ []) p.local (assignment_stands b vs c.args.stat.now c.requires.stands target e p.kind)
 
 pub emit_statement-emit_print-requires-clause-stands : goal.emit_statement-emit_print-requires-clause-stands
@@ -152,45 +165,45 @@ emit_statement-bounds-as_slice-0-in-Some t c =
 pub emit_statement-new_label-over-requires : goal.emit_statement-new_label-over-requires
 emit_statement-new_label-over-requires t c =
     let arm = c.index-as_slice-0-in-None.result in
-    let p = chosen c.args.bindings.now (names_of c.args.scope.now) c.args.stat.now c.in-If.arms arm c.in-If.other c.requires.form c.in-If.is (cc) in
+    let p = one_branch c.args.bindings.now (names_of c.args.scope.now) c.args.stat.now c.in-If.arms arm c.in-If.other c.requires.form c.in-If.is (cc) in
     let words = words_of_branch c.args.stat.now arm (p.kind ∙ ap (λ o. stat.If (arm ∷ []) o) c.in-None.is) in
     omega (arith, c.requires.labels, words)
 
 pub emit_statement-new_label-to_other-requires : goal.emit_statement-new_label-to_other-requires
 emit_statement-new_label-to_other-requires t c =
     let arm = c.index-as_slice-0-in-Some.result in
-    let p = chosen c.args.bindings.now (names_of c.args.scope.now) c.args.stat.now c.in-If.arms arm c.in-If.other c.requires.form c.in-If.is (cc) in
+    let p = one_branch c.args.bindings.now (names_of c.args.scope.now) c.args.stat.now c.in-If.arms arm c.in-If.other c.requires.form c.in-If.is (cc) in
     let words = words_of_branches c.args.stat.now arm c.in-Some.others (p.kind ∙ ap (λ o. stat.If (arm ∷ []) o) c.in-Some.is) in
     omega (arith, c.requires.labels, words)
 
 pub emit_statement-new_label-over-requires-in-Some : goal.emit_statement-new_label-over-requires-in-Some
 emit_statement-new_label-over-requires-in-Some t c =
     let arm = c.index-as_slice-0-in-Some.result in
-    let p = chosen c.args.bindings.now (names_of c.args.scope.now) c.args.stat.now c.in-If.arms arm c.in-If.other c.requires.form c.in-If.is (cc) in
+    let p = one_branch c.args.bindings.now (names_of c.args.scope.now) c.args.stat.now c.in-If.arms arm c.in-If.other c.requires.form c.in-If.is (cc) in
     let words = words_of_branches c.args.stat.now arm c.in-Some.others (p.kind ∙ ap (λ o. stat.If (arm ∷ []) o) c.in-Some.is) in
     omega (arith, c.requires.labels, words, ap (λ d. d.labels) c.new_label-to_other.ensures.draft)
 
 pub emit_statement-emit_test-requires-clause-form : goal.emit_statement-emit_test-requires-clause-form
 emit_statement-emit_test-requires-clause-form t c =
     let arm = c.index-as_slice-0-in-None.result in
-    (chosen c.args.bindings.now (names_of c.args.scope.now) c.args.stat.now c.in-If.arms arm c.in-If.other c.requires.form c.in-If.is (cc)).form.cond
+    (one_branch c.args.bindings.now (names_of c.args.scope.now) c.args.stat.now c.in-If.arms arm c.in-If.other c.requires.form c.in-If.is (cc)).form.cond
 
 pub emit_statement-emit_test-requires-in-Some-clause-form : goal.emit_statement-emit_test-requires-in-Some-clause-form
 emit_statement-emit_test-requires-in-Some-clause-form t c =
     let arm = c.index-as_slice-0-in-Some.result in
-    (chosen c.args.bindings.now (names_of c.args.scope.now) c.args.stat.now c.in-If.arms arm c.in-If.other c.requires.form c.in-If.is (cc)).form.cond
+    (one_branch c.args.bindings.now (names_of c.args.scope.now) c.args.stat.now c.in-If.arms arm c.in-If.other c.requires.form c.in-If.is (cc)).form.cond
 
 pub emit_statement-emit_test-requires-clause-room : goal.emit_statement-emit_test-requires-clause-room
 emit_statement-emit_test-requires-clause-room t c =
     let arm = c.index-as_slice-0-in-None.result in
-    let p = chosen c.args.bindings.now (names_of c.args.scope.now) c.args.stat.now c.in-If.arms arm c.in-If.other c.requires.form c.in-If.is (cc) in
+    let p = one_branch c.args.bindings.now (names_of c.args.scope.now) c.args.stat.now c.in-If.arms arm c.in-If.other c.requires.form c.in-If.is (cc) in
     let words = words_of_branch c.args.stat.now arm (p.kind ∙ ap (λ o. stat.If (arm ∷ []) o) c.in-None.is) in
     omega (arith, c.requires.room, words, ap (λ d. length d.constants.items) c.new_label-over.ensures.draft)
 
 pub emit_statement-emit_test-requires-in-Some-clause-room : goal.emit_statement-emit_test-requires-in-Some-clause-room
 emit_statement-emit_test-requires-in-Some-clause-room t c =
     let arm = c.index-as_slice-0-in-Some.result in
-    let p = chosen c.args.bindings.now (names_of c.args.scope.now) c.args.stat.now c.in-If.arms arm c.in-If.other c.requires.form c.in-If.is (cc) in
+    let p = one_branch c.args.bindings.now (names_of c.args.scope.now) c.args.stat.now c.in-If.arms arm c.in-If.other c.requires.form c.in-If.is (cc) in
     let words = words_of_branches c.args.stat.now arm c.in-Some.others (p.kind ∙ ap (λ o. stat.If (arm ∷ []) o) c.in-Some.is) in
     let two = two_labels c.args.code.now c.new_label-to_other.new.code c.new_label-over-in-Some.new.code c.new_label-to_other.ensures.draft
     c.new_label-over-in-Some.ensures.draft in
@@ -199,19 +212,19 @@ emit_statement-emit_test-requires-in-Some-clause-room t c =
 pub emit_statement-emit_test-requires-clause-stands : goal.emit_statement-emit_test-requires-clause-stands
 emit_statement-emit_test-requires-clause-stands t c =
     let arm = c.index-as_slice-0-in-None.result in
-    let p = chosen c.args.bindings.now (names_of c.args.scope.now) c.args.stat.now c.in-If.arms arm c.in-If.other c.requires.form c.in-If.is (cc) in
+    let p = one_branch c.args.bindings.now (names_of c.args.scope.now) c.args.stat.now c.in-If.arms arm c.in-If.other c.requires.form c.in-If.is (cc) in
     condition_stands c.args.bindings.now c.args.scope.now c.args.stat.now c.requires.stands arm c.in-If.other p.kind
 
 pub emit_statement-emit_test-requires-in-Some-clause-stands : goal.emit_statement-emit_test-requires-in-Some-clause-stands
 emit_statement-emit_test-requires-in-Some-clause-stands t c =
     let arm = c.index-as_slice-0-in-Some.result in
-    let p = chosen c.args.bindings.now (names_of c.args.scope.now) c.args.stat.now c.in-If.arms arm c.in-If.other c.requires.form c.in-If.is (cc) in
+    let p = one_branch c.args.bindings.now (names_of c.args.scope.now) c.args.stat.now c.in-If.arms arm c.in-If.other c.requires.form c.in-If.is (cc) in
     condition_stands c.args.bindings.now c.args.scope.now c.args.stat.now c.requires.stands arm c.in-If.other p.kind
 
 pub emit_statement-emit_block-requires : goal.emit_statement-emit_block-requires
 emit_statement-emit_block-requires t c =
     let arm = c.index-as_slice-0-in-None.result in
-    let p = chosen c.args.bindings.now (names_of c.args.scope.now) c.args.stat.now c.in-If.arms arm c.in-If.other c.requires.form c.in-If.is (cc) in
+    let p = one_branch c.args.bindings.now (names_of c.args.scope.now) c.args.stat.now c.in-If.arms arm c.in-If.other c.requires.form c.in-If.is (cc) in
     let r = branch_ready c.args.code.now c.new_label-over.new.code c.emit_test.new.code (names_of c.args.scope.now) c.args.stat.now arm
     c.as_slice-in-None-2.result.now c.new_label-over.result (p.kind ∙ ap (λ o. stat.If (arm ∷ []) o) c.in-None.is)
     c.as_slice-in-None-2.ensures c.new_label-over.ensures.draft c.in_ok-emit_test-in-None.ensures
@@ -228,7 +241,7 @@ emit_statement-emit_block-requires t c =
 pub emit_statement-returns-in_ok-emit_block-in-None-clause-code : goal.emit_statement-returns-in_ok-emit_block-in-None-clause-code
 emit_statement-returns-in_ok-emit_block-in-None-clause-code t c =
     let arm = c.index-as_slice-0-in-None.result in
-    let p = chosen c.args.bindings.now (names_of c.args.scope.now) c.args.stat.now c.in-If.arms arm c.in-If.other c.requires.form c.in-If.is (cc) in
+    let p = one_branch c.args.bindings.now (names_of c.args.scope.now) c.args.stat.now c.in-If.arms arm c.in-If.other c.requires.form c.in-If.is (cc) in
     emits_of_branch _ c.args.code.now c.new_label-over.new.code c.emit_test.new.code c.emit_block.new.code _ (names_of c.args.scope.now)
     c.args.stat.now arm c.as_slice-in-None-2.result.now c.new_label-over.result (p.kind ∙ ap (λ o. stat.If (arm ∷ []) o) c.in-None.is)
     c.as_slice-in-None-2.ensures c.new_label-over.ensures.label c.new_label-over.ensures.draft c.in_ok-emit_test-in-None.ensures
@@ -237,7 +250,7 @@ emit_statement-returns-in_ok-emit_block-in-None-clause-code t c =
 pub emit_statement-emit_block-requires-in-Some : goal.emit_statement-emit_block-requires-in-Some
 emit_statement-emit_block-requires-in-Some t c =
     let arm = c.index-as_slice-0-in-Some.result in
-    let p = chosen c.args.bindings.now (names_of c.args.scope.now) c.args.stat.now c.in-If.arms arm c.in-If.other c.requires.form c.in-If.is (cc) in
+    let p = one_branch c.args.bindings.now (names_of c.args.scope.now) c.args.stat.now c.in-If.arms arm c.in-If.other c.requires.form c.in-If.is (cc) in
     let two = two_labels c.args.code.now c.new_label-to_other.new.code c.new_label-over-in-Some.new.code
     c.new_label-to_other.ensures.draft c.new_label-over-in-Some.ensures.draft in
     let r = branches_ready c.args.code.now c.new_label-over-in-Some.new.code c.emit_test-in-Some.new.code (names_of c.args.scope.now)
@@ -256,7 +269,7 @@ emit_statement-emit_block-requires-in-Some t c =
 pub emit_statement-emit_block-requires-in-Some-2 : goal.emit_statement-emit_block-requires-in-Some-2
 emit_statement-emit_block-requires-in-Some-2 t c =
     let arm = c.index-as_slice-0-in-Some.result in
-    let p = chosen c.args.bindings.now (names_of c.args.scope.now) c.args.stat.now c.in-If.arms arm c.in-If.other c.requires.form c.in-If.is (cc) in
+    let p = one_branch c.args.bindings.now (names_of c.args.scope.now) c.args.stat.now c.in-If.arms arm c.in-If.other c.requires.form c.in-If.is (cc) in
     let two = two_labels c.args.code.now c.new_label-to_other.new.code c.new_label-over-in-Some.new.code
     c.new_label-to_other.ensures.draft c.new_label-over-in-Some.ensures.draft in
     let r = others_ready c.args.code.now c.new_label-over-in-Some.new.code c.emit_test-in-Some.new.code c.emit_block-in-Some.new.code
@@ -286,7 +299,7 @@ emit_statement-emit_block-requires-in-Some-2 t c =
 pub emit_statement-returns-in_ok-emit_block-in-Some-2-clause-code : goal.emit_statement-returns-in_ok-emit_block-in-Some-2-clause-code
 emit_statement-returns-in_ok-emit_block-in-Some-2-clause-code t c =
     let arm = c.index-as_slice-0-in-Some.result in
-    let p = chosen c.args.bindings.now (names_of c.args.scope.now) c.args.stat.now c.in-If.arms arm c.in-If.other c.requires.form c.in-If.is (cc) in
+    let p = one_branch c.args.bindings.now (names_of c.args.scope.now) c.args.stat.now c.in-If.arms arm c.in-If.other c.requires.form c.in-If.is (cc) in
     let two = two_labels c.args.code.now c.new_label-to_other.new.code c.new_label-over-in-Some.new.code
     c.new_label-to_other.ensures.draft c.new_label-over-in-Some.ensures.draft in
     let over : c.new_label-over-in-Some.result ≡ c.args.code.now.labels + 1 = c.new_label-over-in-Some.ensures.label ∙ ap (λ d. d.labels)

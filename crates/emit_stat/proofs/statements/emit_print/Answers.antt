@@ -1,7 +1,7 @@
 use Rattle.std.proofs.Common.{◌-◌, ◌+◌, length, ap, arith}
 use Rattle.emit_stat.specs.Standing.{names_of}
 use Rattle.emit_stat.specs.Form.{room}
-use Rattle.emit_stat.proofs.EmittedStatements.{printed, emits_of_print}
+use Rattle.emit_stat.proofs.Prints.{one_print, emits_of_print}
 use Rattle.emit_stat.proofs.StandingParts.{call_argument}
 use Rattle.emit_stat.proofs.TreeForms.{more_registers}
 use Rattle.emit_stat.proofs.statements.emit_print.Goals as goal
@@ -11,7 +11,7 @@ emit_value-requires-clause-form c =
     let b = c.args.bindings.now in
     let vs = c.args.scope.now in
     let e = c.index-as_slice-0.result in
-    let p = printed b vs c.args.call.now c.in-Call.callee e c.in-Call.args c.requires.form c.in-Call.is (cc) c.requires.stands in
+    let p = one_print b vs c.args.call.now c.in-Call.callee e c.in-Call.args c.requires.form c.in-Call.is (cc) c.requires.stands in
     more_registers b (room (names_of vs) 1) (256 - (c.free_register-base.result + 1)) e (omega arith) p.value
 
 pub emit_value-requires-clause-stands : goal.emit_value-requires-clause-stands
@@ -19,7 +19,7 @@ emit_value-requires-clause-stands c =
     let b = c.args.bindings.now in
     let vs = c.args.scope.now in
     let e = c.index-as_slice-0.result in
-    let p = printed b vs c.args.call.now c.in-Call.callee e c.in-Call.args c.requires.form c.in-Call.is (cc) c.requires.stands in
+    let p = one_print b vs c.args.call.now c.in-Call.callee e c.in-Call.args c.requires.form c.in-Call.is (cc) c.requires.stands in
     call_argument b vs c.args.call.now p.callee e p.kind c.requires.stands
 
 pub emit_value-requires-clause-room : goal.emit_value-requires-clause-room
@@ -27,7 +27,7 @@ emit_value-requires-clause-room c =
     let b = c.args.bindings.now in
     let vs = c.args.scope.now in
     let e = c.index-as_slice-0.result in
-    let p = printed b vs c.args.call.now c.in-Call.callee e c.in-Call.args c.requires.form c.in-Call.is (cc) c.requires.stands in
+    let p = one_print b vs c.args.call.now c.in-Call.callee e c.in-Call.args c.requires.form c.in-Call.is (cc) c.requires.stands in
     omega (arith, c.requires.room, p.words, ap (λ x. length x.items) c.in_ok-put.ensures.constants)
 
 pub returns : goal.returns
@@ -35,7 +35,7 @@ returns c =
     let b = c.args.bindings.now in
     let vs = c.args.scope.now in
     let e = c.index-as_slice-0.result in
-    let p = printed b vs c.args.call.now c.in-Call.callee e c.in-Call.args c.requires.form c.in-Call.is (cc) c.requires.stands in
+    let p = one_print b vs c.args.call.now c.in-Call.callee e c.in-Call.args c.requires.form c.in-Call.is (cc) c.requires.stands in
     emits_of_print b c.put-2.result c.args.code.now c.put.new.code c.emit_value.new.code c.put-2.new.code (names_of vs)
     c.free_register-base.result c.args.call.now e p c.free_register-base.ensures c.requires.print c.in_ok-put.ensures.item
     c.in_ok-put.ensures.labels c.in_ok-emit_value.ensures c.put-2.ensures.constants c.put-2.ensures.labels c.put-2.ensures.item

@@ -1,5 +1,7 @@
-use Rattle.std.proofs.Common.{rules, ◌≡◌, ◌∙◌, None, Some, sym, refl}
-use Rattle.emit_stat.proofs.Built.{only, as_branch, arm_built, unbuilt_of_branch, branches_built, loop_built}
+use Rattle.std.proofs.Common.{rules, ◌≡◌, ◌∙◌, None, Some, sym}
+use Rattle.emit_stat.proofs.Built.{only}
+use Rattle.emit_stat.proofs.Branches.{as_branch, arm_built, unbuilt_of_branch, branches_built}
+use Rattle.emit_stat.proofs.Loops.{loop_built}
 use Rattle.emit_stat.proofs.BuiltBlocks.{built_more}
 use Rattle.emit_stat.proofs.unbuilt.+unbuilt.Goals as goal
 
