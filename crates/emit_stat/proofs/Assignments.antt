@@ -18,7 +18,7 @@ use Rattle.syntax_tree.specs.declared.tree.Stat.{Stat}
 use Rattle.syntax_tree.specs.declared.tree.StatKind.{out-StatKind}
 use Rattle.syntax_tree.specs.Fold.{Steps, at_expr, at_stat}
 use Rattle.syntax_tree.specs.declared.bindings.Bindings.{Bindings}
-use Rattle.syntax_tree.specs.Limits.{most_variables}
+use Rattle.syntax_tree.specs.Limits.{most_variables, most_registers}
 use Rattle.syntax_tree.specs.Need.{StatNeed, need_expr, need_stat}
 use Rattle.syntax_tree.specs.declared.notes.Visible.{Visible}
 use Rattle.syntax_tree.specs.Bulk.{bulk_expr, bulk_stat}
@@ -125,8 +125,8 @@ module _ (b : Bindings) (vs : List Visible) (s : Stat) (stands : StandsAt b vs (
 -- ---- its code
 
 pub value_form : (b : Bindings) (names : List StrId) (free : ℕ) (e : Expr) → IsValue b (room names 0) e → free ≡ length names →
-    length names ≤ most_variables → IsValue b (256 - free) e
-value_form b names free e f is few = more_registers b (room names 0) (256 - free) e (omega arith) f
+    length names ≤ most_variables → IsValue b (most_registers - free) e
+value_form b names free e f is few = more_registers b (room names 0) (most_registers - free) e (omega arith) f
 
 pub assignment_emitted : (c0 c1 c2 : Draft) (names : List StrId) (r : ℕ) (target e : Expr) (x : StrId) → target.kind ≡ expr.Name x →
     register_of names x ≡ Some r → EmitsValue names (length names) e c0 c1 → c2.constants ≡ c1.constants → c2.labels ≡ c1.labels →

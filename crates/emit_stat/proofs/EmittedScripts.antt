@@ -6,7 +6,7 @@ use Rattle.op_words.specs.declared.insn.Insn.TheVariants as insn
 use Rattle.code_link.specs.declared.item.Item.TheVariants as item
 use Rattle.code_link.specs.Labels.{IsLinkable}
 use Rattle.emit_stat.specs.declared.draft.Draft.{Draft}
-use Rattle.emit_stat.specs.Size.{block_words}
+use Rattle.emit_stat.specs.Size.{most_words, block_words}
 use Rattle.emit_stat.specs.Code.{IsScriptCode}
 use Rattle.emit_stat.specs.Fits.{AllFit}
 use Rattle.emit_stat.specs.Emitted.{HasLabels, Appends, EmitsBlock, IsEmitted}
@@ -15,7 +15,7 @@ use Rattle.emit_stat.proofs.LabelRanges.{labels_on, labels_insns, linkable}
 
 emitted : (empty c1 c2 c3 : Draft) (stats : List Stat) → empty.items.items ≡ [] →
     Appends empty c1 1 (item.Insn (insn.PrepVarargs 0) ∷ []) → c1.labels ≡ 0 → EmitsBlock [] stats c1 c2 →
-    Appends c2 c3 1 (item.Insn (insn.Return 0 1) ∷ []) → c3.constants ≡ c2.constants → block_words stats ≤ 29998 → IsEmitted stats c3
+    Appends c2 c3 1 (item.Insn (insn.Return 0 1) ∷ []) → c3.constants ≡ c2.constants → block_words stats ≤ most_words → IsEmitted stats c3
 emitted empty c1 c2 c3 stats none w l1 b r last small =
     let begin = item.Insn (insn.PrepVarargs 0) ∷ [] in
     let end = item.Insn (insn.Return 0 1) ∷ [] in
@@ -34,6 +34,6 @@ emitted empty c1 c2 c3 stats none w l1 b r last small =
 
 pub script_emitted : (empty c1 c2 c3 : Draft) (names : List StrId) (stats : List Stat) → empty.items.items ≡ [] → empty.labels ≡ 0 →
     names ≡ [] → Appends empty c1 1 (item.Insn (insn.PrepVarargs 0) ∷ []) → c1.labels ≡ empty.labels → EmitsBlock names stats c1 c2 →
-    Appends c2 c3 1 (item.Insn (insn.Return 0 1) ∷ []) → c3.constants ≡ c2.constants → block_words stats ≤ 29998 → IsEmitted stats c3
+    Appends c2 c3 1 (item.Insn (insn.Return 0 1) ∷ []) → c3.constants ≡ c2.constants → block_words stats ≤ most_words → IsEmitted stats c3
 script_emitted empty c1 c2 c3 names stats none l0 scope w l1 b r last small =
     emitted empty c1 c2 c3 stats none w (l1 ∙ l0) (subst (λ n. EmitsBlock n stats c1 c2) scope b) r last small

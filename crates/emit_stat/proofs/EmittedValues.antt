@@ -16,6 +16,7 @@ use Rattle.op_words.specs.declared.insn.Insn.TheVariants as insn
 use Rattle.code_link.specs.declared.item.Item.TheVariants as item
 use Rattle.code_link.specs.Labels.{word_count}
 use Rattle.machine_meaning.specs.declared.code.Constant.TheVariants as constant
+use Rattle.syntax_tree.specs.Limits.{most_registers}
 use Rattle.emit_stat.specs.declared.draft.Draft.{Draft}
 use Rattle.emit_stat.specs.Names.{register_of}
 use Rattle.emit_stat.specs.Operations.{operation}
@@ -129,9 +130,9 @@ emits_of_result r c0 c1 c2 c3 names to e a b op i k o p q h l s =
     on_ok_weaker r (λ x. of_result c0 c1 c2 c3 names to e a b op i k o p q h l x) s
 
 -- ---- registers
-pub second_register : (b : Bindings) (to : ℕ) (e l r : Expr) (op : BinOp) → IsValue b (256 - to) e → e.kind ≡ expr.Binary op l r → to < 255
-second_register b to e l r op f k = omega (arith, (operands b (256 - to) e l r op f k).room)
+pub second_register : (b : Bindings) (to : ℕ) (e l r : Expr) (op : BinOp) → IsValue b (most_registers - to) e → e.kind ≡ expr.Binary op l r → to < 255
+second_register b to e l r op f k = omega (arith, (operands b (most_registers - to) e l r op f k).room)
 
-pub known_operation : (b : Bindings) (to : ℕ) (e l r : Expr) (op : BinOp) → IsValue b (256 - to) e → e.kind ≡ expr.Binary op l r →
+pub known_operation : (b : Bindings) (to : ℕ) (e l r : Expr) (op : BinOp) → IsValue b (most_registers - to) e → e.kind ≡ expr.Binary op l r →
     IsSome (operation op 0 0 0)
-known_operation b to e l r op f k = (operands b (256 - to) e l r op f k).operation
+known_operation b to e l r op f k = (operands b (most_registers - to) e l r op f k).operation

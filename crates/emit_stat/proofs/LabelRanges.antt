@@ -9,6 +9,7 @@ use Rattle.op_words.specs.Encoding.{encoded}
 use Rattle.code_link.specs.declared.item.Item.TheVariants as item
 use Rattle.code_link.specs.declared.item.Item.{Item}
 use Rattle.code_link.specs.Labels.{is_jump, word_count, place_in, labels, AreJumps, IsLinkable}
+use Rattle.syntax_tree.specs.Limits.{most_bulk}
 use Rattle.emit_stat.specs.Emitted.{HasLabels, placements, below, BranchesBelow}
 
 -- ---- one label
@@ -110,7 +111,7 @@ are_jumps n place (item.Insn i ∷ is) h b = are_jumps n place is h b
 are_jumps n place (item.Branch i l ∷ is) h b = (b.0, h l b.1, are_jumps n place is h b.2)
 are_jumps n place (item.Label l ∷ is) h b = are_jumps n place is h b
 
-pub linkable : (n : ℕ) (is : List Item) → HasLabels 0 n is → word_count is ≤ 30000 → IsLinkable is
+pub linkable : (n : ℕ) (is : List Item) → HasLabels 0 n is → word_count is ≤ most_bulk → IsLinkable is
 linkable n is h short = record {
   once = once is (λ l. omega (arith, h.placed l, below_one n l));
   jumps = are_jumps n (place_in is 0) is (λ l lt. has_place is 0 l (omega (arith, h.placed l, below_zero l, is_below n l lt))) h.branches;

@@ -4,6 +4,7 @@ ghost use Rattle.std.specs.Prelude.{◌≡◌, ◌+◌, ◌-◌, ◌^◌, ◌<�
 ghost use Rattle.emit_stat.specs.Names.{register_of};
 ghost use Rattle.emit_stat.specs.Operations.{operation};
 ghost use Rattle.emit_stat.specs.Form.{IsValue};
+ghost use Rattle.syntax_tree.specs.Limits.{most_registers};
 ghost use Rattle.emit_stat.specs.Size.{expr_words};
 ghost use Rattle.emit_stat.specs.Emitted.{EmitsNumber, EmitsValue};
 ghost use Rattle.emit_stat.specs.Unbuilt.{uses_of};
@@ -72,7 +73,7 @@ pub fn emit_value(
     to: u8,
     e: &Expr,
 ) -> Result<(), OutOfMemory>
-    requires form { IsValue bindings.now (256 - to) e.now }
+    requires form { IsValue bindings.now (most_registers - to) e.now }
     requires stands { StandsAt bindings.now scope.now (expr e.now) }
     requires above { length (names_of scope.now) ≤ to }
     requires room { length code.old.constants.items + expr_words e.now ≤ 2 ^ 15 }

@@ -3,6 +3,7 @@ use Rattle.syntax_tree.specs.declared.notes.Visible.{Visible}
 use Rattle.syntax_tree.specs.declared.tree.ExprKind.TheViews as views
 use Rattle.syntax_tree.specs.declared.tree.StatKind as stat
 use Rattle.scope_laws.specs.Sight as sight
+use Rattle.syntax_tree.specs.Limits.{most_registers}
 use Rattle.emit_stat.specs.Standing.{names_of, Stand}
 use Rattle.emit_stat.specs.Form.{room, IsCondition, IsBlock}
 use Rattle.emit_stat.specs.Emitted.{EmitsBlock}
@@ -79,7 +80,7 @@ emit_statement-emit_value-requires-clause-form t c =
     let names = names_of c.args.scope.now in
     let e = c.index-as_slice-0.result in
     let p = one_local b names c.args.stat.now c.in-Local.names c.in-Local.values e c.requires.form c.in-Local.is (cc) in
-    more_registers b (room names 0) (256 - c.free_register-free.result) e (omega (arith, p.2.few, c.free_register-free.ensures)) p.2.form
+    more_registers b (room names 0) (most_registers - c.free_register-free.result) e (omega (arith, p.2.few, c.free_register-free.ensures)) p.2.form
 
 pub emit_statement-returns-in_ok-emit_value-in-Local-clause-code : goal.emit_statement-returns-in_ok-emit_value-in-Local-clause-code
 emit_statement-returns-in_ok-emit_value-in-Local-clause-code t c =

@@ -1,4 +1,5 @@
 use Rattle.std.proofs.Common.{◌-◌, ◌+◌, length, ap, arith}
+use Rattle.syntax_tree.specs.Limits.{most_registers}
 use Rattle.emit_stat.specs.Standing.{names_of}
 use Rattle.emit_stat.specs.Form.{room}
 use Rattle.emit_stat.proofs.Prints.{one_print, emits_of_print}
@@ -12,7 +13,7 @@ emit_value-requires-clause-form c =
     let vs = c.args.scope.now in
     let e = c.index-as_slice-0.result in
     let p = one_print b vs c.args.call.now c.in-Call.callee e c.in-Call.args c.requires.form c.in-Call.is (cc) c.requires.stands in
-    more_registers b (room (names_of vs) 1) (256 - (c.free_register-base.result + 1)) e (omega arith) p.value
+    more_registers b (room (names_of vs) 1) (most_registers - (c.free_register-base.result + 1)) e (omega arith) p.value
 
 pub emit_value-requires-clause-stands : goal.emit_value-requires-clause-stands
 emit_value-requires-clause-stands c =

@@ -1,4 +1,5 @@
 use Rattle.std.proofs.Common.{◌-◌, ◌+◌, sym, ap, subst, arith}
+use Rattle.syntax_tree.specs.Limits.{most_registers}
 use Rattle.emit_stat.specs.Standing.{names_of}
 use Rattle.emit_stat.specs.Form.{room, IsValue}
 use Rattle.emit_stat.specs.Size.{expr_words}
@@ -12,7 +13,7 @@ emit_value-requires-clause-form c =
     let b = c.args.bindings.now in
     let names = names_of c.args.scope.now in
     let p = comparison b names c.args.cond.now c.in-Binary.a c.in-Binary.b c.in-Binary.op c.requires.form c.in-Binary.is in
-    more_registers b (room names 0) (256 - c.free_register-left.result) c.get.result.now (omega arith)
+    more_registers b (room names 0) (most_registers - c.free_register-left.result) c.get.result.now (omega arith)
     (subst (λ x. IsValue b (room names 0) x) (sym c.get.ensures) p.left)
 
 pub emit_value-requires-2-clause-form : goal.emit_value-requires-2-clause-form
@@ -20,7 +21,7 @@ emit_value-requires-2-clause-form c =
     let b = c.args.bindings.now in
     let names = names_of c.args.scope.now in
     let p = comparison b names c.args.cond.now c.in-Binary.a c.in-Binary.b c.in-Binary.op c.requires.form c.in-Binary.is in
-    more_registers b (room names 1) (256 - (c.free_register-left.result + 1)) c.get-2.result.now (omega arith)
+    more_registers b (room names 1) (most_registers - (c.free_register-left.result + 1)) c.get-2.result.now (omega arith)
     (subst (λ x. IsValue b (room names 1) x) (sym c.get-2.ensures) p.right)
 
 pub emit_value-requires-2-clause-room : goal.emit_value-requires-2-clause-room

@@ -1,5 +1,6 @@
 use Rattle.std.proofs.Common.{rules, ◌-◌, ◌+◌, ◌∙◌, sym, ap, subst, arith}
 use Rattle.syntax_tree.specs.declared.tree.ExprKind.TheViews as views
+use Rattle.syntax_tree.specs.Limits.{most_registers}
 use Rattle.emit_stat.specs.Form.{IsValue}
 use Rattle.emit_stat.specs.Size.{expr_words}
 use Rattle.emit_stat.specs.Standing.{names_of}
@@ -15,12 +16,12 @@ emit_value-requires t c =
     let vs = c.args.scope.now in
     let e = c.args.e.now in
     let i = c.in-Binary in
-    let p = operands b (256 - c.args.to) e i.a i.b i.op c.requires.form i.is in
+    let p = operands b (most_registers - c.args.to) e i.a i.b i.op c.requires.form i.is in
     let words = words_of_result e i.a i.b i.op i.is in
     let left = ap expr_words c.get.ensures in (
       search (rules, views.the_lemmas),
       (
-        subst (λ x. IsValue b (256 - c.args.to) x) (sym c.get.ensures) p.left,
+        subst (λ x. IsValue b (most_registers - c.args.to) x) (sym c.get.ensures) p.left,
         (
           left_operand b vs e i.a i.b c.get.result.now i.op i.is c.get.ensures c.requires.stands,
           (c.requires.above, omega (arith, c.requires.room, words, left)),
@@ -35,15 +36,15 @@ emit_value-requires-in-Binary t c =
     let e = c.args.e.now in
     let i = c.in-Binary in
     let right = c.get-in-Binary.result.now in
-    let p = operands b (256 - c.args.to) e i.a i.b i.op c.requires.form i.is in
+    let p = operands b (most_registers - c.args.to) e i.a i.b i.op c.requires.form i.is in
     let words = words_of_result e i.a i.b i.op i.is in
     let left_words = ap expr_words c.get.ensures in
     let right_words = ap expr_words c.get-in-Binary.ensures in
     let grown = length_extended _ _ _ c.in_ok-emit_value-in-Binary.ensures.items.constants in (
       search (rules, views.the_lemmas),
       (
-        more_registers b (256 - c.args.to - 1) (256 - (c.args.to + 1)) right (omega arith)
-            (subst (λ x. IsValue b (256 - c.args.to - 1) x) (sym c.get-in-Binary.ensures) p.right),
+        more_registers b (most_registers - c.args.to - 1) (most_registers - (c.args.to + 1)) right (omega arith)
+            (subst (λ x. IsValue b (most_registers - c.args.to - 1) x) (sym c.get-in-Binary.ensures) p.right),
         (
           right_operand b vs e i.a i.b right i.op i.is c.get-in-Binary.ensures c.requires.stands,
           (
