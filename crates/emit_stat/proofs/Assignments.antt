@@ -52,7 +52,7 @@ use Rattle.emit_stat.proofs.Following.{begun, names_are, Same, by_source, by_mac
 use Rattle.emit_stat.proofs.NeverStuck.{bound_more, found, numbers_set, by_step, ValueFine, StatementFine, keeping}
 use Rattle.emit_stat.proofs.Holding.{ValueHolds, StatementHolds, second, value_holds}
 use Rattle.emit_stat.proofs.ItemLists.{extends_same, extends_on}
-use Rattle.emit_stat.proofs.StandingParts.{in_assignment}
+use Rattle.emit_stat.proofs.StandingParts.{in_quiet}
 use Rattle.emit_stat.proofs.Reading.{Reads, split_insns}
 use Rattle.emit_stat.proofs.BuiltNames.{name_kind, local_name, registered}
 use Rattle.emit_stat.proofs.NewestNames.{as_newest, newest_some}
@@ -117,10 +117,14 @@ module _ (b : Bindings) where
 
 -- ---- where its parts stand
 
+pub in_assignment : (b : Bindings) (vs : List Visible) (x : Stat) (after : List Part) (ts es : List Expr) → Stand b vs (sight.stat x ∷ after) →
+    out-StatKind x.kind ≡ level.Assign ts es → Stand b vs (map sight.expr ts ++ map sight.expr es)
+in_assignment b vs x after ts es s k = in_quiet b vs x after (level.Assign ts es) (map sight.expr ts ++ map sight.expr es) (λ s. refl) s k
+
 module _ (b : Bindings) (vs : List Visible) (s : Stat) (stands : StandsAt b vs (sight.stat s)) where
   pub assignment_stands : (t e : Expr) → s.kind ≡ stat.Assign (t ∷ []) (e ∷ []) → Stand b vs (sight.expr t ∷ sight.expr e ∷ [])
   assignment_stands t e k =
-      parts.in_assignment b vs s stands.0 (t ∷ []) (e ∷ []) stands.1 (ap out-StatKind k ∙ views.outs-Assign (t ∷ []) (e ∷ []))
+      in_assignment b vs s stands.0 (t ∷ []) (e ∷ []) stands.1 (ap out-StatKind k ∙ views.outs-Assign (t ∷ []) (e ∷ []))
 
 -- ---- its code
 

@@ -53,7 +53,7 @@ use Rattle.emit_stat.proofs.NeverStuck.{Sound, found, FineAt, by_step, Condition
 use Rattle.emit_stat.proofs.Holding.{block_bulk, ConditionHolds, StatementHolds, BlockHolds, condition_holds, BlocksBelow}
 use Rattle.emit_stat.proofs.BuiltNeeds.{no_front, no_back, inner_fits}
 use Rattle.emit_stat.proofs.ItemLists.{extends_same, extends_on, appends_on, appends_most, appends_from}
-use Rattle.emit_stat.proofs.StandingParts.{block_seen, in_branch, in_arm, behind_condition, in_else}
+use Rattle.emit_stat.proofs.StandingParts.{in_quiet, in_arm, in_block, behind_quiet, behind_condition, block_seen}
 use Rattle.emit_stat.proofs.Reading.{Reads, split, on, ahead, same_place}
 use Rattle.emit_stat.proofs.Locals.{Locals}
 
@@ -189,11 +189,22 @@ module _ (b : Bindings) where
 
 -- ---- where its parts stand
 
+pub in_branch : (b : Bindings) (vs : List Visible) (x : Stat) (after : List Part) (arms : List Arm) (other : Option (List Stat)) →
+    Stand b vs (sight.stat x ∷ after) → out-StatKind x.kind ≡ level.StatKind::If arms other → Stand b vs (map sight.arm arms ++ sight.else_block other)
+in_branch b vs x after arms other s k =
+    in_quiet b vs x after (level.StatKind::If arms other) (map sight.arm arms ++ sight.else_block other) (λ s. refl) s k
+
+-- the block of `else`
+pub in_else : (b : Bindings) (vs : List Visible) (x : Stat) (after : List Part) (a : Arm) (others : List Stat) →
+    Stand b vs (sight.stat x ∷ after) → out-StatKind x.kind ≡ level.StatKind::If (a ∷ []) (Some others) → Stand b vs (map sight.stat others)
+in_else b vs x after a others s k =
+    in_block b vs others [] (behind_quiet b vs (sight.arm a) (sight.block [] others ∷ []) (λ n. refl) (in_branch b vs x after (a ∷ []) (Some others) s k))
+
 module _ (b : Bindings) (vs : List Visible) (s : Stat) (stands : StandsAt b vs (sight.stat s)) where
   pub arm_inside : (a : Arm) (other : Option (List Stat)) → s.kind ≡ stat.If (a ∷ []) other →
       Stand b vs (sight.expr (out-Arm a).cond ∷ sight.block [] (out-Arm a).body ∷ [])
   arm_inside a other k =
-      parts.in_arm b vs a _ (parts.in_branch b vs s stands.0 (a ∷ []) other stands.1 (ap out-StatKind k ∙ views.outs-StatKind::If (a ∷ [])
+      parts.in_arm b vs a _ (in_branch b vs s stands.0 (a ∷ []) other stands.1 (ap out-StatKind k ∙ views.outs-StatKind::If (a ∷ [])
       other))
 
   pub condition_stands : (a : Arm) (other : Option (List Stat)) → s.kind ≡ stat.If (a ∷ []) other → StandsAt b vs (sight.expr (out-Arm a).cond)
@@ -207,7 +218,7 @@ module _ (b : Bindings) (vs : List Visible) (s : Stat) (stands : StandsAt b vs (
   pub else_stands : (a : Arm) (others seen : List Stat) → s.kind ≡ stat.If (a ∷ []) (Some others) → seen ≡ others →
       Stand b vs (map sight.stat seen)
   else_stands a others seen k same =
-      block_seen b vs others seen same (parts.in_else b vs s stands.0 a others stands.1 (ap out-StatKind k ∙ views.outs-StatKind::If (a ∷ [])
+      block_seen b vs others seen same (in_else b vs s stands.0 a others stands.1 (ap out-StatKind k ∙ views.outs-StatKind::If (a ∷ [])
       (Some others)))
 
 -- ---- its labels
@@ -490,7 +501,7 @@ choose_fine names s arm other h answered runs other_runs left k env cells ok aft
 -- ---- what holds of it
 
 module _ (b : Bindings) where
-  -- a condition and its sight.block
+  -- a condition and its block
   pub record ArmHolds (a : Arm) : Type 0 where
     within : arm_words a ≤ bulk_arm b a + 2
     answered : (vs : List Visible) (after : List Part) → Stand b vs (sight.arm a ∷ after) → ConditionFine (names_of vs) (out-Arm a).cond

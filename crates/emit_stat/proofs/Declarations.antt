@@ -21,6 +21,7 @@ use Rattle.syntax_tree.specs.Rules.{StatRules, too_many, rules_expr, rules_stat}
 use Rattle.syntax_tree.specs.declared.notes.Visible.{Visible}
 use Rattle.syntax_tree.specs.Bulk.{bulk_expr, bulk_stat}
 use Rattle.scope_laws.specs.Sight as sight
+use Rattle.scope_laws.specs.Sight.{Part}
 use Rattle.code_link.specs.declared.item.Item.TheVariants as item
 use Rattle.built_values.specs.declared.value.Value.TheVariants as value
 use Rattle.built_values.specs.declared.value.Value.{Value}
@@ -32,7 +33,7 @@ use Rattle.emit_stat.specs.Unbuilt.{steps, uses_of, unbuilt_in_stat, local_state
 use Rattle.emit_stat.specs.Names.{names_after, names_beyond}
 use Rattle.emit_stat.specs.Form.{room, IsValue, IsStatement}
 use Rattle.emit_stat.specs.Size.{expr_words, stat_words}
-use Rattle.emit_stat.specs.Standing.{names_of, StandsAt}
+use Rattle.emit_stat.specs.Standing.{Stand, names_of, StandsAt}
 use Rattle.emit_stat.specs.declared.draft.Draft.{Draft}
 use Rattle.emit_stat.specs.Code.{IsStatementCode, IsValueCode}
 use Rattle.emit_stat.specs.Emitted.{EmitsValue, EmitsStatement}
@@ -43,7 +44,7 @@ use Rattle.emit_stat.proofs.Following.{begun, names_are, Same, by_source, expr_s
 use Rattle.emit_stat.proofs.NeverStuck.{Bound, bound_more, Sound, numbers_append, by_step, ValueFine, StatementFine}
 use Rattle.emit_stat.proofs.Holding.{ValueHolds, StatementHolds, value_holds}
 use Rattle.emit_stat.proofs.BuiltNeeds.{no_back, not_too_many}
-use Rattle.emit_stat.proofs.StandingParts.{in_local}
+use Rattle.emit_stat.proofs.StandingParts.{in_statement}
 use Rattle.emit_stat.proofs.Reading.{Reads}
 use Rattle.emit_stat.proofs.Locals.{Locals, locals_declare, Temporaries, fits_newest, Since}
 
@@ -103,10 +104,16 @@ module _ (b : Bindings) where
 
 -- ---- where its parts stand
 
+pub in_local : (b : Bindings) (vs : List Visible) (x : Stat) (after : List Part) (xs : List StrId) (es : List Expr) →
+    Stand b vs (sight.stat x ∷ after) → out-StatKind x.kind ≡ level.Local xs es → Stand b vs (map sight.expr es)
+in_local b vs x after xs es s k =
+    in_statement b vs x after (level.Local xs es) (map sight.expr es) (record { scope = λ s. refl; first = λ s. refl; declared = λ s. omega arith })
+    (λ s. refl) s k
+
 module _ (b : Bindings) (vs : List Visible) (s : Stat) (stands : StandsAt b vs (sight.stat s)) where
   pub local_stands : (x : StrId) (e : Expr) → s.kind ≡ stat.Local (x ∷ []) (e ∷ []) → StandsAt b vs (sight.expr e)
   local_stands x e k =
-      ([], parts.in_local b vs s stands.0 (x ∷ []) (e ∷ []) stands.1 (ap out-StatKind k ∙ views.outs-Local (x ∷ []) (e ∷ [])))
+      ([], in_local b vs s stands.0 (x ∷ []) (e ∷ []) stands.1 (ap out-StatKind k ∙ views.outs-Local (x ∷ []) (e ∷ [])))
 
 -- ---- its code
 

@@ -20,6 +20,7 @@ use Rattle.syntax_tree.specs.Rules.{StatRules, in_loop_of, rules_expr, rules_sta
 use Rattle.syntax_tree.specs.declared.notes.Visible.{Visible}
 use Rattle.syntax_tree.specs.Bulk.{bulk_expr, bulk_stat}
 use Rattle.scope_laws.specs.Sight as sight
+use Rattle.scope_laws.specs.Sight.{Part}
 use Rattle.op_words.specs.declared.insn.Insn.TheVariants as insn
 use Rattle.op_words.specs.declared.insn.Insn.TheVariants.{JumpBack}
 use Rattle.op_words.specs.Encoding.{encoded}
@@ -54,7 +55,7 @@ use Rattle.emit_stat.proofs.NeverStuck.{charges, Sound, found, FineAt, by_step, 
 use Rattle.emit_stat.proofs.Holding.{block_bulk, ConditionHolds, StatementHolds, BlockHolds, condition_holds, BlocksBelow}
 use Rattle.emit_stat.proofs.BuiltNeeds.{no_back, inner_fits}
 use Rattle.emit_stat.proofs.ItemLists.{extends_on, appends_on, appends_most, appends_from}
-use Rattle.emit_stat.proofs.StandingParts.{block_seen, in_loop, behind_condition}
+use Rattle.emit_stat.proofs.StandingParts.{in_quiet, behind_condition, block_seen}
 use Rattle.emit_stat.proofs.Reading.{Reads, split, on, same_place}
 use Rattle.emit_stat.proofs.Locals.{Locals}
 
@@ -110,9 +111,13 @@ module _ (b : Bindings) where
 
 -- ---- where its parts stand
 
+pub in_loop : (b : Bindings) (vs : List Visible) (x : Stat) (after : List Part) (cond : Expr) (body : List Stat) →
+    Stand b vs (sight.stat x ∷ after) → out-StatKind x.kind ≡ level.While cond body → Stand b vs (sight.expr cond ∷ sight.block [] body ∷ [])
+in_loop b vs x after cond body s k = in_quiet b vs x after (level.While cond body) (sight.expr cond ∷ sight.block [] body ∷ []) (λ s. refl) s k
+
 module _ (b : Bindings) (vs : List Visible) (s : Stat) (stands : StandsAt b vs (sight.stat s)) where
   pub loop_inside : (cond : Expr) (body : List Stat) → s.kind ≡ stat.While cond body → Stand b vs (sight.expr cond ∷ sight.block [] body ∷ [])
-  loop_inside cond body k = parts.in_loop b vs s stands.0 cond body stands.1 (ap out-StatKind k ∙ views.outs-While cond body)
+  loop_inside cond body k = in_loop b vs s stands.0 cond body stands.1 (ap out-StatKind k ∙ views.outs-While cond body)
 
   pub test_stands : (cond seen : Expr) (body : List Stat) → s.kind ≡ stat.While cond body → seen ≡ cond → StandsAt b vs (sight.expr seen)
   test_stands cond seen body k same =

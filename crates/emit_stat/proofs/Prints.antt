@@ -21,6 +21,7 @@ use Rattle.syntax_tree.specs.Need.{ExprNeed, StatNeed, need_expr, need_stat}
 use Rattle.syntax_tree.specs.declared.notes.Visible.{Visible}
 use Rattle.syntax_tree.specs.Bulk.{bulk_expr, bulk_stat}
 use Rattle.scope_laws.specs.Sight as sight
+use Rattle.scope_laws.specs.Sight.{Part}
 use Rattle.op_words.specs.declared.insn.Insn.TheVariants as insn
 use Rattle.op_words.specs.Encoding.{encoded}
 use Rattle.op_words.specs.Decoding.{insn_at}
@@ -41,7 +42,7 @@ use Rattle.emit_stat.specs.Size as size
 use Rattle.emit_stat.specs.Unbuilt.{steps, uses_of, unbuilt_in_stat, ExprUses, kind_uses, print_call}
 use Rattle.emit_stat.specs.Form.{room, IsValue, IsCall, IsStatement}
 use Rattle.emit_stat.specs.Size.{expr_words, stat_words}
-use Rattle.emit_stat.specs.Standing.{names_of, StandsAt}
+use Rattle.emit_stat.specs.Standing.{Stand, names_of, StandsAt}
 use Rattle.emit_stat.specs.declared.draft.Draft.{Draft}
 use Rattle.emit_stat.specs.Names.{register_of}
 use Rattle.emit_stat.specs.Code.{IsPrintCode, IsStatementCode}
@@ -54,7 +55,7 @@ use Rattle.emit_stat.proofs.Following.{opened, begun, Same, by_source, by_machin
 use Rattle.emit_stat.proofs.NeverStuck.{shows, unbound, printed_number, by_step, ValueFine, StatementFine, keeping}
 use Rattle.emit_stat.proofs.Holding.{ValueHolds, CallHolds, StatementHolds, second, value_holds}
 use Rattle.emit_stat.proofs.ItemLists.{extends_same, extends_on, constant_stays, appends_most}
-use Rattle.emit_stat.proofs.StandingParts.{in_expr, in_call_statement, in_call}
+use Rattle.emit_stat.proofs.StandingParts.{in_expr, in_quiet, right_one}
 use Rattle.emit_stat.proofs.Reading.{Reads, split_insns}
 use Rattle.emit_stat.proofs.BuiltNames.{name_kind, print_name_of, print_free}
 use Rattle.emit_stat.proofs.NewestNames.{as_newest}
@@ -122,10 +123,23 @@ module _ (b : Bindings) where
 
 -- ---- where its parts stand
 
+pub in_call : (b : Bindings) (vs : List Visible) (call callee : Expr) (args : List Expr) (after : List Part) →
+    call.kind ≡ expr.Call callee args → Stand b vs (sight.expr call ∷ after) → Stand b vs (sight.expr callee ∷ map sight.expr args)
+in_call b vs call callee args after k s =
+    in_expr b vs call after (level.ExprKind::Call callee args) s (ap out-ExprKind k ∙ views.outs-ExprKind::Call callee args)
+
+pub call_argument : (b : Bindings) (vs : List Visible) (call callee argument : Expr) → call.kind ≡ expr.Call callee (argument ∷ []) →
+    StandsAt b vs (sight.expr call) → StandsAt b vs (sight.expr argument)
+call_argument b vs call callee argument k s = right_one b vs callee argument (in_call b vs call callee (argument ∷ []) s.0 k s.1)
+
+pub in_call_statement : (b : Bindings) (vs : List Visible) (x : Stat) (after : List Part) (call : Expr) → Stand b vs (sight.stat x ∷ after) →
+    out-StatKind x.kind ≡ level.StatKind::Call call → Stand b vs (sight.expr call ∷ [])
+in_call_statement b vs x after call s k = in_quiet b vs x after (level.StatKind::Call call) (sight.expr call ∷ []) (λ s. refl) s k
+
 module _ (b : Bindings) (vs : List Visible) (s : Stat) (stands : StandsAt b vs (sight.stat s)) where
   pub call_stands : (call : Expr) → s.kind ≡ stat.Call call → StandsAt b vs (sight.expr call)
   call_stands call k =
-      ([], parts.in_call_statement b vs s stands.0 call stands.1 (ap out-StatKind k ∙ views.outs-StatKind::Call call))
+      ([], in_call_statement b vs s stands.0 call stands.1 (ap out-StatKind k ∙ views.outs-StatKind::Call call))
 
 -- ---- its code
 

@@ -94,7 +94,7 @@ pub record SeesSame (l : StatLevel) : Type 0 where
   pub first : (s : Sight) → (in_stat l s).sight.first ≡ s.first
   pub declared : (s : Sight) → s.declared ≤ (in_stat l s).sight.declared
 
-in_statement : (b : Bindings) (vs : List Visible) (x : Stat) (after : List Part) (l : StatLevel) (parts : List Part) → SeesSame l →
+pub in_statement : (b : Bindings) (vs : List Visible) (x : Stat) (after : List Part) (l : StatLevel) (parts : List Part) → SeesSame l →
     ((s : Sight) → (in_stat l s).parts ≡ parts) → Stand b vs (stat x ∷ after) → out-StatKind x.kind ≡ l → Stand b vs parts
 in_statement b vs x after l parts same are s h = record {
   main = s.main;
@@ -117,29 +117,6 @@ in_quiet b vs x after l parts same s k =
       declared = λ s. let e = ap (λ (i : Inside). i.sight.declared) (same s) in omega (arith, e);
     })
     (λ s. ap (λ (i : Inside). i.parts) (same s)) s k
-
-pub in_local : (b : Bindings) (vs : List Visible) (x : Stat) (after : List Part) (xs : List StrId) (es : List Expr) →
-    Stand b vs (stat x ∷ after) → out-StatKind x.kind ≡ level.Local xs es → Stand b vs (map expr es)
-in_local b vs x after xs es s k =
-    in_statement b vs x after (level.Local xs es) (map expr es) (record { scope = λ s. refl; first = λ s. refl; declared = λ s. omega arith })
-    (λ s. refl) s k
-
-pub in_assignment : (b : Bindings) (vs : List Visible) (x : Stat) (after : List Part) (ts es : List Expr) → Stand b vs (stat x ∷ after) →
-    out-StatKind x.kind ≡ level.Assign ts es → Stand b vs (map expr ts ++ map expr es)
-in_assignment b vs x after ts es s k = in_quiet b vs x after (level.Assign ts es) (map expr ts ++ map expr es) (λ s. refl) s k
-
-pub in_call_statement : (b : Bindings) (vs : List Visible) (x : Stat) (after : List Part) (call : Expr) → Stand b vs (stat x ∷ after) →
-    out-StatKind x.kind ≡ level.StatKind::Call call → Stand b vs (expr call ∷ [])
-in_call_statement b vs x after call s k = in_quiet b vs x after (level.StatKind::Call call) (expr call ∷ []) (λ s. refl) s k
-
-pub in_branch : (b : Bindings) (vs : List Visible) (x : Stat) (after : List Part) (arms : List Arm) (other : Option (List Stat)) →
-    Stand b vs (stat x ∷ after) → out-StatKind x.kind ≡ level.StatKind::If arms other → Stand b vs (map arm arms ++ else_block other)
-in_branch b vs x after arms other s k =
-    in_quiet b vs x after (level.StatKind::If arms other) (map arm arms ++ else_block other) (λ s. refl) s k
-
-pub in_loop : (b : Bindings) (vs : List Visible) (x : Stat) (after : List Part) (cond : Expr) (body : List Stat) →
-    Stand b vs (stat x ∷ after) → out-StatKind x.kind ≡ level.While cond body → Stand b vs (expr cond ∷ block [] body ∷ [])
-in_loop b vs x after cond body s k = in_quiet b vs x after (level.While cond body) (expr cond ∷ block [] body ∷ []) (λ s. refl) s k
 
 pub in_arm : (b : Bindings) (vs : List Visible) (a : Arm) (after : List Part) → Stand b vs (arm a ∷ after) →
     Stand b vs (expr (out-Arm a).cond ∷ block [] (out-Arm a).body ∷ [])
@@ -169,12 +146,6 @@ in_block b vs body after s = record {
 pub behind_condition : (b : Bindings) (vs : List Visible) (cond : Expr) (body : List Stat) → Stand b vs (expr cond ∷ block [] body ∷ []) →
     Stand b vs (map stat body)
 behind_condition b vs cond body s = in_block b vs body [] (behind_quiet b vs (expr cond) (block [] body ∷ []) (λ n. refl) s)
-
--- the block of `else`
-pub in_else : (b : Bindings) (vs : List Visible) (x : Stat) (after : List Part) (a : Arm) (others : List Stat) →
-    Stand b vs (stat x ∷ after) → out-StatKind x.kind ≡ level.StatKind::If (a ∷ []) (Some others) → Stand b vs (map stat others)
-in_else b vs x after a others s k =
-    in_block b vs others [] (behind_quiet b vs (arm a) (block [] others ∷ []) (λ n. refl) (in_branch b vs x after (a ∷ []) (Some others) s k))
 
 -- a block as it is seen
 pub block_seen : (b : Bindings) (vs : List Visible) (body seen : List Stat) → seen ≡ body → Stand b vs (map stat body) →
@@ -263,12 +234,3 @@ pub right_operand : (b : Bindings) (vs : List Visible) (e l r seen : Expr) (op :
     StandsAt b vs (expr e) → StandsAt b vs (expr seen)
 right_operand b vs e l r seen op k same s =
     subst (λ (z : Expr). StandsAt b vs (expr z)) (sym same) (right_one b vs l r (operands b vs e l r op k s))
-
-pub in_call : (b : Bindings) (vs : List Visible) (call callee : Expr) (args : List Expr) (after : List Part) →
-    call.kind ≡ expr_kind.Call callee args → Stand b vs (expr call ∷ after) → Stand b vs (expr callee ∷ map expr args)
-in_call b vs call callee args after k s =
-    in_expr b vs call after (level.ExprKind::Call callee args) s (ap out-ExprKind k ∙ views.outs-ExprKind::Call callee args)
-
-pub call_argument : (b : Bindings) (vs : List Visible) (call callee argument : Expr) → call.kind ≡ expr_kind.Call callee (argument ∷ []) →
-    StandsAt b vs (expr call) → StandsAt b vs (expr argument)
-call_argument b vs call callee argument k s = right_one b vs callee argument (in_call b vs call callee (argument ∷ []) s.0 k s.1)

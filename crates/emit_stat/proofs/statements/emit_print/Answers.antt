@@ -3,7 +3,7 @@ use Rattle.syntax_tree.specs.Limits.{most_registers}
 use Rattle.emit_stat.specs.Standing.{names_of}
 use Rattle.emit_stat.specs.Form.{room}
 use Rattle.emit_stat.proofs.Prints.{one_print, emits_of_print}
-use Rattle.emit_stat.proofs.StandingParts.{call_argument}
+use Rattle.emit_stat.proofs.Prints.{call_argument}
 use Rattle.emit_stat.proofs.TreeForms.{more_registers}
 use Rattle.emit_stat.proofs.statements.emit_print.Goals as goal
 
