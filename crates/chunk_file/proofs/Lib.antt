@@ -6,7 +6,9 @@ mod Fields
 mod FilesCut
 mod FilesRead
 mod Head
+mod InstructionsListed
 mod ListFields
+mod Listed
 mod NumberFields
 mod NumberRead
 mod ReadTimes

@@ -1,4 +1,5 @@
 pub mod Answers
 pub mod Laws
+pub mod Listing
 pub mod Reading
 pub mod Spelling
