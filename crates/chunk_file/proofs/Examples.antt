@@ -1,10 +1,6 @@
--- The chunk of the empty script, what is read of its bytes, and its listing.
-use Rattle.std.proofs.Common.{◌≡◌, refl, List, [], ◌∷◌, ◌++◌, take, ℕ, true, codes}
-use Rattle.std.specs.Fmt.{digits}
+-- The chunk of the empty script, and what is read of its bytes.
+use Rattle.std.proofs.Common.{◌≡◌, refl, List, [], ◌∷◌, ◌++◌, take, ℕ, true}
 use Rattle.op_words.specs.Chunks.{ChunkOf}
-use Rattle.op_words.specs.Decoding.{insn_of, named}
-use Rattle.op_words.specs.Names.{name_of, fields_of, operand}
-use Rattle.chunk_file.specs.Listing.{listing, instructions, quoted}
 use Rattle.chunk_file.specs.Spelling.{spelling, number}
 use Rattle.chunk_file.specs.Reading.{read_file, read_number, IsChunk, Truncated, Trailing}
 
@@ -45,10 +41,3 @@ one_more = refl
 three_hundred : number 300 ≡ 172 ∷ 2 ∷ []
 unfolding number
 three_hundred = refl
-
-listed : listing empty_script ≡ codes "proto 0 1 0 0 1\n0 PREPVARARGS 0\n1 RETURN 0 1\nmain 0\n"
-unfolding listing instructions insn_of named name_of fields_of operand digits
-listed = refl
-
-in_quotes : quoted (codes "a \"\\\n~") ≡ codes "\"a \\22\\5c\\0a~\""
-in_quotes = refl

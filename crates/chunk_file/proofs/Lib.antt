@@ -6,9 +6,7 @@ mod Fields
 mod FilesCut
 mod FilesRead
 mod Head
-mod InstructionsListed
 mod ListFields
-mod Listed
 mod NumberFields
 mod NumberRead
 mod ReadTimes

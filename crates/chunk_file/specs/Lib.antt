@@ -1,5 +1,4 @@
 pub mod Answers
 pub mod Laws
-pub mod Listing
 pub mod Reading
 pub mod Spelling

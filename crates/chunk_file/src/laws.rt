@@ -1,7 +1,6 @@
-//! What reading has to do with spelling, and what is listed of code. Each function does nothing: its contract is the law.
+//! What reading has to do with spelling. Each function does nothing: its contract is the law.
 
 ghost use Rattle.chunk_file.specs.Laws.{HasOneChunk, NoPrefix, ReadsBeginnings, ReadsSpellings, ReadsTrailing};
-ghost use Rattle.chunk_file.specs.Listing.{ListsInstructions};
 
 /// Two chunks of one spelling are one, and no spelling is the beginning of another.
 pub fn one_spelling()
@@ -15,9 +14,4 @@ pub fn reads_spellings()
     ensures chunks { ReadsSpellings }
     ensures beginnings { ReadsBeginnings }
     ensures trailing { ReadsTrailing }
-{}
-
-/// Of code that is the words of instructions one behind another, these instructions are listed, each with the place of its first word.
-pub fn lists_instructions()
-    ensures { ListsInstructions }
 {}

@@ -4,14 +4,13 @@
 mod error;
 mod fault;
 mod laws;
-mod listing;
 mod lists;
 mod reader;
 mod reading;
 mod writing;
 
+pub use chunk_listing::list;
 pub use error::ChunkErr;
-pub use laws::{lists_instructions, one_spelling, reads_spellings};
-pub use listing::list;
+pub use laws::{one_spelling, reads_spellings};
 pub use reading::read;
 pub use writing::write;

@@ -1,5 +1,0 @@
-use Rattle.chunk_file.proofs.InstructionsListed.{lists_instructions}
-use Rattle.chunk_file.proofs.laws.lists_instructions.Goals as goal
-
-pub returns : goal.returns
-returns c = lists_instructions
