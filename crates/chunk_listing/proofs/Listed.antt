@@ -31,7 +31,8 @@ each-append f from (y ∷ ys) x =
     ∙ ap (λ n. each f from (y ∷ ys) ++ f n x) same
 
 -- one item more
-pub each_more : {A B : Type 0} (f : ℕ → A → List B) (xs : List A) (i : ℕ) (x : A) → x ≡ get_or xs i x → i < length xs → each f 0 (take (i + 1) xs) ≡ each f 0 (take i xs) ++ f i x
+pub each_more : {A B : Type 0} (f : ℕ → A → List B) (xs : List A) (i : ℕ) (x : A) → x ≡ get_or xs i x → i < length xs
+    → each f 0 (take (i + 1) xs) ≡ each f 0 (take i xs) ++ f i x
 each_more f xs i x is h =
     let longer : take (i + 1) xs ≡ take i xs ++ x ∷ [] =
     ap (λ n. take n xs) (add-one i) ∙ take-suc xs i x h ∙ ap (λ y. take i xs ++ y ∷ []) (sym is) in
@@ -56,7 +57,8 @@ each-map f g from [] = refl
 each-map f g from (x ∷ xs) = ap (λ t. f from (g x) ++ t) (each-map f g (from + 1) xs)
 
 -- the text of lines, item by item
-pub text_of-numbered : {A : Type 0} (line : ℕ → A → Line) (from : ℕ) (xs : List A) → text_of (map (λ item. line item.0 item.1) (enumerate_from from xs)) ≡ each (λ n x. line_text (line n x)) from xs
+pub text_of-numbered : {A : Type 0} (line : ℕ → A → Line) (from : ℕ) (xs : List A)
+    → text_of (map (λ item. line item.0 item.1) (enumerate_from from xs)) ≡ each (λ n x. line_text (line n x)) from xs
 text_of-numbered line from [] = refl
 text_of-numbered line from (x ∷ xs) = ap (λ t. line_text (line from x) ++ t) (text_of-numbered line (from + 1) xs)
 
@@ -114,7 +116,8 @@ further start out code place next insn (suc most) e ahead within enough so_far =
           ∙ so_far;
     }
 
-pub instructions_more : (start out after code : List ℕ) (place next : ℕ) (insn : Insn) → insn_at code place ≡ Some (insn, next) → place < next → next ≤ length code
+pub instructions_more : (start out after code : List ℕ) (place next : ℕ) (insn : Insn)
+    → insn_at code place ≡ Some (insn, next) → place < next → next ≤ length code
     → after ≡ out ++ line_text (instruction_line place insn) → InstructionsSoFar start out code place → InstructionsSoFar start after code next
 instructions_more start out after code place next insn e ahead within is s =
     subst (λ t. InstructionsSoFar start t code next) (sym is) (further start out code place next insn s.most e ahead within s.enough s.so_far)
