@@ -5,7 +5,7 @@
 //! its form's arm of `Insn::operands`, and the second is `Parts::named`. Everything else is said and proved once, for all
 //! instructions: an instruction stands where its own row has the word's parts.
 //!
-//! How an instruction is written as text stands in `names` of `specs/Names.antt`, and in the code in `Insn::written`.
+//! How an instruction is written as text stands in `written` of `specs/Names.antt`, and in the code in `Insn::written`.
 #![tactic(auto)]
 
 mod chunk;
