@@ -1,17 +1,16 @@
 -- Readers of prototypes and of chunks.
-use Rattle.std.proofs.Common.{◌≡◌, ◌≢◌, ℕ, Bool, List, [], ◌∷◌, ◌++◌, length, refl, sym, ◌∙◌, ap, subst, arith}
+use Rattle.std.proofs.Common.{◌≡◌, ℕ, Bool, List, [], ◌∷◌, ◌++◌, refl, sym, ◌∙◌, ap, subst}
 use Rattle.std.proofs.lemmas.List.{append-nil, append_assoc}
-use Rattle.std.specs.List.{AllByRecursion}
-use Rattle.op_words.specs.Chunks.{ChunkOf, ProtoOf}
+use Rattle.op_words.specs.Chunks.{ProtoOf}
 use Rattle.op_words.specs.declared.chunk.Const.{Const}
-use Rattle.chunk_file.specs.Spelling.{IsByte, IsNumber, HasBits, HasBitsIn, HasCounts, HasCountsIn, IsSized, IsCount, number, word, constant, text, flag, counted, proto}
-use Rattle.chunk_file.specs.Reading.{Found, Read, behind, read_byte, read_flag, read_number, read_word, read_constant, read_text, read_counted, read_proto, read_contents}
+use Rattle.chunk_file.specs.Spelling.{IsNumber, HasBits, HasBitsIn, HasCountsIn, number, word, constant, flag, counted, proto}
+use Rattle.chunk_file.specs.Reading.{read_number, read_word, read_constant, read_counted, read_proto}
 use Rattle.chunk_file.proofs.Readers.{IsReader, IsNothing, Then, converted, only_reads, then_reads}
 use Rattle.chunk_file.proofs.Fields.{IsOneByte, byte_reads, IsFlag, flag_reads}
 use Rattle.chunk_file.proofs.NumberFields.{IsNumberOf, number_reads}
 use Rattle.chunk_file.proofs.WordFields.{IsWord, word_reads}
 use Rattle.chunk_file.proofs.ConstantFields.{IsConstant, constant_reads}
-use Rattle.chunk_file.proofs.ListFields.{Spelled, MayCount, counted_reads, IsText, text_reads}
+use Rattle.chunk_file.proofs.ListFields.{Spelled, MayCount, counted_reads}
 
 -- ---- the lists in a prototype
 

@@ -1,12 +1,12 @@
 -- The reader of constants.
-use Rattle.std.proofs.Common.{◌≡◌, ◌≢◌, ℕ, zero, suc, ◌<◌, ℤ, Bool, true, false, nat_eq, List, [], ◌∷◌, ◌++◌, refl, sym, ◌∙◌, ap, subst, arith, if◌then◌else◌}
+use Rattle.std.proofs.Common.{◌≡◌, ℕ, zero, suc, ℤ, Bool, nat_eq, List, [], ◌∷◌, ◌++◌, refl, sym, ◌∙◌, ap, subst, arith, if◌then◌else◌}
 use Rattle.std.proofs.lemmas.Bool.{ne_eqb}
 use Rattle.op_words.specs.declared.chunk.Const.{Const}
 use Rattle.op_words.specs.declared.chunk.Const.TheVariants as const
 use Rattle.chunk_file.specs.Laws.{AreBytes}
-use Rattle.chunk_file.specs.Spelling.{IsByte, HasBits, constant}
-use Rattle.chunk_file.specs.Reading.{Found, Read, Ends, Wrong, behind, read_byte, read_named, read_constant, read_whole, read_number, read_word}
-use Rattle.chunk_file.proofs.Readers.{IsReadFrom, Begins, Example, IsWrong, IsReader}
+use Rattle.chunk_file.specs.Spelling.{HasBits, constant}
+use Rattle.chunk_file.specs.Reading.{Found, Read, Ends, Wrong, behind, read_named, read_constant, read_whole, read_number, read_word}
+use Rattle.chunk_file.proofs.Readers.{IsReadFrom, Begins, IsWrong, IsReader}
 use Rattle.chunk_file.proofs.NumberFields.{IsNumberOf, number_reads}
 use Rattle.chunk_file.proofs.WordFields.{IsWord, word_reads, IsWholeOf, whole_reads}
 

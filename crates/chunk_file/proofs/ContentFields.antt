@@ -1,11 +1,11 @@
 -- The reader of what stands behind the version.
-use Rattle.std.proofs.Common.{◌≡◌, ℕ, List, [], ◌∷◌, ◌++◌, refl, sym, ◌∙◌, ap, subst}
+use Rattle.std.proofs.Common.{ℕ, List, [], ◌∷◌, ◌++◌, refl, sym, ◌∙◌, ap, subst}
 use Rattle.std.proofs.lemmas.List.{append-nil, append_assoc}
 use Rattle.std.specs.List.{AllByRecursion}
 use Rattle.op_words.specs.Chunks.{ChunkOf, ProtoOf}
 use Rattle.chunk_file.specs.Laws.{AreBytes}
 use Rattle.chunk_file.specs.Spelling.{HasBitsIn, HasCountsIn, HasCounts, IsSized, IsCount, number, text, counted, proto}
-use Rattle.chunk_file.specs.Reading.{read_number, read_text, read_proto, read_counted, read_contents}
+use Rattle.chunk_file.specs.Reading.{read_text, read_proto, read_contents}
 use Rattle.chunk_file.proofs.Readers.{IsReader, IsNothing, Then, converted, only_reads, then_reads}
 use Rattle.chunk_file.proofs.NumberFields.{IsNumberOf, number_reads}
 use Rattle.chunk_file.proofs.ListFields.{Spelled, MayCount, counted_reads, IsText, text_reads}

@@ -1,11 +1,10 @@
 -- Readers of single fields.
-use Rattle.std.proofs.Common.{◌≡◌, ◌≢◌, ℕ, zero, suc, ◌+◌, ◌-◌, ◌*◌, ◌/◌, ◌%◌, ◌^◌, ◌<◌, ◌≤◌, Bool, true, false, nat_eq, nat_lt, nat_le, List, [], ◌∷◌, ◌++◌, length, take, drop, replicate, refl, sym, ◌∙◌, ap, subst, arith, if◌then◌else◌}
-use Rattle.std.proofs.lemmas.Bool.{eqb-true, ltb-true, lt-ltb, ltb-false, le-ltb, leb-true, leb-false, le-leb, lt-leb}
-use Rattle.std.specs.List.{AllByRecursion}
+use Rattle.std.proofs.Common.{◌≡◌, ◌≢◌, ℕ, zero, suc, ◌+◌, ◌-◌, ◌<◌, ◌≤◌, Bool, true, false, nat_eq, nat_le, List, [], ◌∷◌, ◌++◌, length, take, drop, replicate, refl, sym, ◌∙◌, ap, subst, arith, if◌then◌else◌}
+use Rattle.std.proofs.lemmas.Bool.{eqb-true, leb-true, leb-false, le-leb}
 use Rattle.chunk_file.specs.Laws.{AreBytes}
 use Rattle.chunk_file.specs.Spelling.{IsByte, flag}
 use Rattle.chunk_file.specs.Reading.{Found, Read, Ends, Wrong, read_byte, read_flag, read_bytes}
-use Rattle.chunk_file.proofs.Readers.{IsReadFrom, Begins, Example, IsWrong, IsReader, bytes_behind, bytes_in_front, bytes_joined}
+use Rattle.chunk_file.proofs.Readers.{IsReadFrom, Begins, IsWrong, IsReader, bytes_in_front, bytes_joined}
 
 -- ---- a byte
 

@@ -1,14 +1,14 @@
 -- Files that are cut off.
-use Rattle.std.proofs.Common.{◌≡◌, ◌≢◌, ◌⊎◌, inl, inr, ℕ, zero, suc, Bool, true, false, nat_eq, List, [], ◌∷◌, ◌++◌, length, refl, sym, ◌∙◌, ap, subst, if◌then◌else◌}
+use Rattle.std.proofs.Common.{◌≡◌, ◌≢◌, ℕ, Bool, true, false, nat_eq, List, [], ◌∷◌, ◌++◌, length, refl, sym, ◌∙◌, ap, subst, if◌then◌else◌}
 use Rattle.std.proofs.lemmas.Bool.{eqb-true, eq-eqb}
 use Rattle.std.proofs.lemmas.List.{append-nil, append_assoc}
 use Rattle.op_words.specs.Chunks.{ChunkOf}
-use Rattle.chunk_file.specs.Laws.{AreBytes, Spells, BeginsChunk, ReadsBeginnings, HasOneChunk, NoPrefix}
+use Rattle.chunk_file.specs.Laws.{AreBytes, BeginsChunk, ReadsBeginnings, HasOneChunk, NoPrefix}
 use Rattle.chunk_file.specs.Spelling.{spelling, magic, version}
-use Rattle.chunk_file.specs.Reading.{Found, Read, Ends, Wrong, Answer, IsChunk, Truncated, BadMagic, BadVersion, BadField, Trailing, read_contents, whole_file, contents, read_version, read_magic, read_file, place}
-use Rattle.chunk_file.proofs.Readers.{IsWrong, Begins, not_empty, bytes_behind}
+use Rattle.chunk_file.specs.Reading.{Found, Read, Ends, Wrong, IsChunk, Truncated, BadMagic, BadVersion, read_contents, whole_file, contents, read_version, read_magic, read_file, place}
+use Rattle.chunk_file.proofs.Readers.{IsWrong, not_empty}
 use Rattle.chunk_file.proofs.ContentFields.{MayChunk, spelled_contents, contents_reads}
-use Rattle.chunk_file.proofs.FilesRead.{body, as_spelled, body_bytes, file_forward, trailing_if, spelled_read}
+use Rattle.chunk_file.proofs.FilesRead.{body, as_spelled, body_bytes, spelled_read}
 
 -- ---- where bytes are cut off
 

@@ -1,12 +1,12 @@
 -- What a file is read as, and what it is.
-use Rattle.std.proofs.Common.{◌≡◌, ◌≢◌, ◌⊎◌, inl, inr, ◌↔◌, ℕ, zero, suc, ◌+◌, ◌-◌, ◌<◌, ◌≤◌, Bool, true, false, nat_eq, List, [], ◌∷◌, ◌++◌, length, refl, sym, ◌∙◌, ap, subst, arith, if◌then◌else◌}
+use Rattle.std.proofs.Common.{◌≡◌, ◌≢◌, ℕ, ◌≤◌, Bool, true, false, nat_eq, List, [], ◌∷◌, ◌++◌, length, refl, sym, ◌∙◌, ap, subst, arith, if◌then◌else◌}
 use Rattle.std.proofs.lemmas.Bool.{eqb-true, eq-eqb}
-use Rattle.std.proofs.lemmas.List.{append-nil, append_assoc}
+use Rattle.std.proofs.lemmas.List.{append-nil}
 use Rattle.op_words.specs.Chunks.{ChunkOf}
-use Rattle.chunk_file.specs.Laws.{AreBytes, Spells, BeginsChunk, HasTrailing, ReadsSpellings, ReadsBeginnings, ReadsTrailing, HasOneChunk, NoPrefix}
+use Rattle.chunk_file.specs.Laws.{AreBytes, Spells, HasTrailing, ReadsSpellings, ReadsTrailing}
 use Rattle.chunk_file.specs.Spelling.{spelling, magic, version}
 use Rattle.chunk_file.specs.Reading.{Found, Read, Ends, Wrong, Answer, IsChunk, Truncated, BadMagic, BadVersion, BadField, Trailing, read_contents, whole_file, contents, read_version, read_magic, read_file, place}
-use Rattle.chunk_file.proofs.Readers.{IsReader, IsReadFrom, Begins, IsWrong, bytes_behind, not_empty}
+use Rattle.chunk_file.proofs.Readers.{bytes_behind}
 use Rattle.chunk_file.proofs.ListFields.{Spelled}
 use Rattle.chunk_file.proofs.ContentFields.{MayChunk, spelled_contents, contents_reads}
 

@@ -1,11 +1,11 @@
 -- Readers of counted lists, and of texts.
-use Rattle.std.proofs.Common.{◌≡◌, ℕ, zero, suc, ◌<◌, ◌^◌, List, [], ◌∷◌, ◌++◌, length, refl, sym, ◌∙◌, ap, subst, arith}
+use Rattle.std.proofs.Common.{◌≡◌, ℕ, zero, suc, ◌<◌, ◌^◌, List, [], ◌∷◌, ◌++◌, length, refl, sym, ◌∙◌, ap, subst}
 use Rattle.std.proofs.lemmas.List.{append-nil}
 use Rattle.std.specs.List.{AllByRecursion, flat_map}
 use Rattle.chunk_file.specs.Laws.{AreBytes}
 use Rattle.chunk_file.specs.Spelling.{IsCount, number, counted, text}
-use Rattle.chunk_file.specs.Reading.{Found, Read, read_number, read_bytes, read_times, read_counted, read_text}
-use Rattle.chunk_file.proofs.Readers.{IsReader, IsNothing, Then, Times, converted, then_reads, times_reads}
+use Rattle.chunk_file.specs.Reading.{Found, read_number, read_bytes, read_times, read_counted, read_text}
+use Rattle.chunk_file.proofs.Readers.{IsReader, Then, Times, converted, then_reads, times_reads}
 use Rattle.chunk_file.proofs.Fields.{IsPiece, piece_reads}
 use Rattle.chunk_file.proofs.NumberFields.{IsNumberOf, number_reads}
 

@@ -1,10 +1,10 @@
 -- The reader of counts and indices.
-use Rattle.std.proofs.Common.{◌≡◌, ◌≢◌, ◌⊎◌, inl, inr, ℕ, zero, suc, ◌+◌, ◌-◌, ◌*◌, ◌/◌, ◌%◌, ◌^◌, ◌<◌, ◌≤◌, Bool, true, false, not, ◌&&◌, ◌||◌, nat_eq, nat_lt, List, [], ◌∷◌, ◌++◌, refl, sym, ◌∙◌, ap, subst, arith, if◌then◌else◌}
-use Rattle.std.proofs.lemmas.Bool.{eqb-true, eq-eqb, ne_eqb, ltb-true, lt-ltb, ltb-false, le-ltb, cases_lt, and_parts}
+use Rattle.std.proofs.Common.{◌≡◌, ◌≢◌, ◌⊎◌, inl, inr, ℕ, zero, suc, ◌+◌, ◌-◌, ◌*◌, ◌/◌, ◌%◌, ◌<◌, ◌≤◌, Bool, true, false, not, ◌&&◌, ◌||◌, nat_eq, nat_lt, List, [], ◌∷◌, ◌++◌, refl, sym, ◌∙◌, ap, subst, arith, if◌then◌else◌}
+use Rattle.std.proofs.lemmas.Bool.{eq-eqb, ne_eqb, ltb-true, lt-ltb, le-ltb, cases_lt, and_parts}
 use Rattle.chunk_file.specs.Laws.{AreBytes}
-use Rattle.chunk_file.specs.Spelling.{IsByte, IsNumber, number, number_within}
+use Rattle.chunk_file.specs.Spelling.{IsNumber, number, number_within}
 use Rattle.chunk_file.specs.Reading.{Found, Read, Ends, Wrong, behind, number_from, read_number}
-use Rattle.chunk_file.proofs.Readers.{IsReadFrom, Begins, Example, IsWrong, IsReader}
+use Rattle.chunk_file.proofs.Readers.{IsReadFrom, Begins, IsWrong, IsReader}
 
 -- a number of so many bytes and one more is below this
 abbrev limit_of : ℕ → ℕ

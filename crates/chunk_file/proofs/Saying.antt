@@ -1,9 +1,9 @@
 -- What an answer says of the bytes.
-use Rattle.std.proofs.Common.{◌≡◌, ℕ, zero, suc, ◌<◌, List, [], ◌∷◌, length, get_or, Result, Ok, Err, sym, ◌∙◌}
-use Rattle.op_words.specs.Chunks.{ChunkOf, chunk_of}
+use Rattle.std.proofs.Common.{◌≡◌, ℕ, suc, ◌<◌, List, [], ◌∷◌, length, get_or, Result, Ok, Err, sym, ◌∙◌}
+use Rattle.op_words.specs.Chunks.{chunk_of}
 use Rattle.op_words.specs.declared.chunk.Chunk.{Chunk}
 use Rattle.chunk_file.specs.Answers.{Answers, Says}
-use Rattle.chunk_file.specs.Laws.{AreBytes, Spells, BeginsChunk}
+use Rattle.chunk_file.specs.Laws.{AreBytes}
 use Rattle.chunk_file.specs.Reading.{IsChunk, Truncated, BadMagic, BadVersion, BadField, read_file}
 use Rattle.chunk_file.specs.declared.error.ChunkErr.{ChunkErr}
 use Rattle.chunk_file.specs.declared.error.ChunkErr.TheVariants as errors

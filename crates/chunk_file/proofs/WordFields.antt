@@ -1,17 +1,17 @@
 -- Readers of numbers of four and of eight bytes.
-use Rattle.std.proofs.Common.{◌≡◌, ◌≢◌, ◌⊎◌, inl, inr, ℕ, zero, suc, ℤ, pos, negsuc, ◌+◌, ◌-◌, ◌*◌, ◌/◌, ◌%◌, ◌^◌, ◌<◌, ◌≤◌, Bool, true, false, ◌&&◌, ◌||◌, nat_lt, nat_le, List, [], ◌∷◌, ◌++◌, length, take, drop, get_or, refl, sym, ◌∙◌, ap, subst, arith, if◌then◌else◌}
+use Rattle.std.proofs.Common.{◌≡◌, ◌≢◌, ◌⊎◌, inl, inr, ℕ, zero, suc, ℤ, pos, negsuc, ◌-◌, ◌^◌, ◌<◌, ◌≤◌, Bool, true, false, ◌&&◌, ◌||◌, nat_lt, nat_le, List, [], ◌∷◌, ◌++◌, length, take, drop, get_or, refl, sym, ◌∙◌, ap, subst, arith, if◌then◌else◌}
 use Rattle.std.proofs.lemmas.Int.{of_z-to_z, to_z-of_z, to_z_pos}
 use Rattle.std.proofs.Math.Facts.{Fits-lt-pow, Fits-of_z, to_z-neg}
 use Rattle.std.specs.Prelude.{FitsSigned}
 use Rattle.whole_num.specs.Whole.{is_whole}
 use Rattle.std.specs.Int.{w32, w64, cast_signed, cast_unsigned, to_le_bytes, from_le_bytes}
-use Rattle.std.proofs.lemmas.Bool.{ltb-true, lt-ltb, ltb-false, le-ltb, leb-true, leb-false, le-leb, lt-leb, cases_lt, and_parts}
+use Rattle.std.proofs.lemmas.Bool.{leb-true, leb-false, le-leb, lt-leb, cases_lt, and_parts}
 use Rattle.std.proofs.lemmas.List.{append-nil}
 use Rattle.std.proofs.lemmas.Nat.{le_bytes_4, le_bytes_8, from_le_bytes-to_le_bytes_4, from_le_bytes-to_le_bytes_8}
 use Rattle.chunk_file.specs.Laws.{AreBytes}
-use Rattle.chunk_file.specs.Spelling.{IsByte, IsNumber, word, whole}
+use Rattle.chunk_file.specs.Spelling.{IsNumber, word, whole}
 use Rattle.chunk_file.specs.Reading.{Found, Read, Ends, Wrong, read_bytes, read_word, read_whole, cut_whole, whole_in, may_go_on}
-use Rattle.chunk_file.proofs.Readers.{IsReadFrom, Begins, Example, IsWrong, IsReader, bytes_in_front, IsNothing, Then, converted, only_reads, then_reads}
+use Rattle.chunk_file.proofs.Readers.{IsReadFrom, Begins, IsWrong, IsReader, bytes_in_front, IsNothing, Then, converted, only_reads, then_reads}
 use Rattle.chunk_file.proofs.Fields.{IsPiece, piece_reads, take_all, long, take_drop, taken, zeros}
 
 pub byte_in : (bs : List ℕ) → AreBytes bs → (i : ℕ) → get_or bs i 0 < 256

@@ -1,5 +1,5 @@
 -- What the functions that read answer, by what a field or a file is read as.
-use Rattle.std.specs.Prelude.{◌≡◌, ℕ, List, length, Result, Ok, Err}
+use Rattle.std.specs.Prelude.{◌≡◌, ℕ, List, length, Option, Some, None, Result, Ok, Err}
 use Rattle.op_words.specs.Chunks.{ChunkOf, chunk_of}
 use Rattle.op_words.specs.declared.chunk.Chunk.{Chunk}
 use Rattle.chunk_file.specs.Laws.{Spells, BeginsChunk, HasTrailing}
@@ -37,6 +37,15 @@ IsFault answer (errors.BadVersion at) = answer ≡ BadVersion at
 IsFault answer (errors.BadField at) = answer ≡ BadField at
 IsFault answer (errors.Trailing at) = answer ≡ Trailing at
 IsFault answer errors.OutOfMemory = Unit {0}
+
+-- the number of a cause; want of memory has none
+abbrev pub number_of : ChunkErr → Option ℕ
+number_of (errors.Truncated at) = Some 30
+number_of (errors.BadMagic at) = Some 31
+number_of (errors.BadVersion at) = Some 32
+number_of (errors.BadField at) = Some 33
+number_of (errors.Trailing at) = Some 34
+number_of errors.OutOfMemory = None
 
 -- the chunk that a file is read as, or why it is none
 abbrev pub Answers : Answer → Result Chunk ChunkErr → Type 0

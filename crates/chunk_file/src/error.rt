@@ -17,8 +17,13 @@ pub enum ChunkErr {
 }
 
 impl ChunkErr {
+    ghost use Rattle.std.specs.Prelude.{◌≡◌};
+    ghost use Rattle.chunk_file.specs.Answers.{number_of};
+
     /// The number of the cause, from 30 to 34; none for want of memory.
-    pub fn number(self) -> Option<u8> {
+    pub fn number(self) -> Option<u8>
+        ensures { result ≡ number_of self }
+    {
         match self {
             ChunkErr::Truncated { .. } => Some(30),
             ChunkErr::BadMagic { .. } => Some(31),

@@ -9,6 +9,7 @@ mod reader;
 mod reading;
 mod writing;
 
+pub use chunk_listing::list;
 pub use error::ChunkErr;
 pub use laws::{one_spelling, reads_spellings};
 pub use reading::read;

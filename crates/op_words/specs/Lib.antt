@@ -1,3 +1,4 @@
 pub mod Chunks
 pub mod Decoding
 pub mod Encoding
+pub mod Names
