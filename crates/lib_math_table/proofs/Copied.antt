@@ -41,14 +41,16 @@ filled_kept texts (e ∷ es) =
     ∙ ap (λ l. cond (not (is_nil e.1)) (pair_of texts e ∷ l) l) (filled_kept texts es)
     ∙ by (is_nil e.1)
   where
-    by : (b : Bool) → cond (not b) (pair_of texts e ∷ map (pair_of texts) (filled es)) (map (pair_of texts) (filled es)) ≡ map (pair_of texts) (cond (not b) (e ∷ filled es) (filled es))
+    by : (b : Bool) → cond (not b) (pair_of texts e ∷ map (pair_of texts) (filled es)) (map (pair_of texts) (filled es))
+        ≡ map (pair_of texts) (cond (not b) (e ∷ filled es) (filled es))
     by true = refl
     by false = refl
 
 copy_kept : (texts : List Bytes) (t : TableView) → rows.copy_of (table_of texts t) ≡ table_of texts (table_with (filled t.entries) t.meta)
 copy_kept texts t = ap (λ es. record (table_of texts (table_with (filled t.entries) t.meta)) { entries = es }) (filled_kept texts t.entries)
 
-pub copy_is : (w : LibWorld) (world : IsWorld w) (t : TableId) (may : MayUseIn w (value.Table t)) → rows.copy_of (store.table_at (store_in w) (table_ref t)) ≡ table_of w.names (table_with (filled (table_at w.arena t).entries) (table_at w.arena t).meta)
+pub copy_is : (w : LibWorld) (world : IsWorld w) (t : TableId) (may : MayUseIn w (value.Table t)) →
+    rows.copy_of (store.table_at (store_in w) (table_ref t)) ≡ table_of w.names (table_with (filled (table_at w.arena t).entries) (table_at w.arena t).meta)
 copy_is w world t may = ap rows.copy_of (table_is w world t may) ∙ copy_kept w.names (table_at w.arena t)
 
 -- ---- what it holds
@@ -78,7 +80,8 @@ module _ (P : Value → Type 0) where
 
 -- ---- the world with it
 
-module _ (w : LibWorld) (world : IsWorld w) (there : HasTable (new_table w.arena w.owner) (next_table w.arena w.owner)) (t : TableId) (may : MayUseIn w (value.Table t)) where
+module _ (w : LibWorld) (world : IsWorld w) (there : HasTable (new_table w.arena w.owner) (next_table w.arena w.owner)) (t : TableId)
+    (may : MayUseIn w (value.Table t)) where
   used : OfPairs (MayUseIn (with_new w)) (filled (table_at w.arena t).entries)
   used =
       pairs_on (MayUseIn w) (MayUseIn (with_new w)) (may_use_on w (with_new w) (new_table_keeps w world)) (filled (table_at w.arena t).entries)
@@ -89,7 +92,8 @@ module _ (w : LibWorld) (world : IsWorld w) (there : HasTable (new_table w.arena
       filled_keeps w world there (table_with (filled (table_at w.arena t).entries) (table_at w.arena t).meta) refl
       (record {
         entries = used;
-        meta = some_on (MayUseIn w) (MayUseIn (with_new w)) (may_use_on w (with_new w) (new_table_keeps w world)) (table_at w.arena t).meta (usable w world t may).meta;
+        meta = some_on (MayUseIn w) (MayUseIn (with_new w)) (may_use_on w (with_new w) (new_table_keeps w world)) (table_at w.arena t).meta
+            (usable w world t may).meta;
       })
 
   pub begun_keeps : (n : ℕ) → Keeps (with_new w) (made w (table_with (take n (filled (table_at w.arena t).entries)) None))
@@ -102,10 +106,12 @@ module _ (w : LibWorld) (world : IsWorld w) (there : HasTable (new_table w.arena
 cloned : LibWorld → TableId → Bool → model.LibAnswer
 cloned w t b = if b then model.ErrsWith error.ProtectedMetatable else string.new_table (store_in w) (rows.copy_of (store.table_at (store_in w) (table_ref t)))
 
-pub clone_fails : (w : LibWorld) (t : TableId) → core.is_protected (store_in w) (table_ref t) ≡ true → Fails w.names (rows.clones (store_in w) (table_ref t)) (RunError ProtectedMetatable)
+pub clone_fails : (w : LibWorld) (t : TableId) → core.is_protected (store_in w) (table_ref t) ≡ true →
+    Fails w.names (rows.clones (store_in w) (table_ref t)) (RunError ProtectedMetatable)
 unfolding cloned meant_error
 clone_fails w t e = (ap (cloned w t) e, tt)
 
-pub clone_goes_on : (w : LibWorld) (t : TableId) → core.is_protected (store_in w) (table_ref t) ≡ false → rows.clones (store_in w) (table_ref t) ≡ string.new_table (store_in w) (rows.copy_of (store.table_at (store_in w) (table_ref t)))
+pub clone_goes_on : (w : LibWorld) (t : TableId) → core.is_protected (store_in w) (table_ref t) ≡ false →
+    rows.clones (store_in w) (table_ref t) ≡ string.new_table (store_in w) (rows.copy_of (store.table_at (store_in w) (table_ref t)))
 unfolding cloned
 clone_goes_on w t e = ap (cloned w t) e

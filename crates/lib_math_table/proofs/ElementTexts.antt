@@ -44,23 +44,31 @@ use Rattle.lib_math_table.proofs.Inserting.{end_is}
 use Rattle.lib_math_table.proofs.Lists.{few, many}
 use Rattle.lib_math_table.proofs.Made.{runs_since}
 
-pub element_fails : (texts : List Bytes) (kind got : Kind) (k place : ℤ) → kind ≡ got → k ≡ place → Fails texts (model.ErrsWith (error.InvalidElement kind k)) (RunError (err.InvalidElement got place))
+pub element_fails : (texts : List Bytes) (kind got : Kind) (k place : ℤ) → kind ≡ got → k ≡ place →
+    Fails texts (model.ErrsWith (error.InvalidElement kind k)) (RunError (err.InvalidElement got place))
 unfolding meant_error
-element_fails texts kind got k place e f = (ap (λ g. model.ErrsWith (error.InvalidElement g k)) e ∙ ap (λ k. model.ErrsWith (error.InvalidElement got k)) f, tt)
+element_fails texts kind got k place e f = (
+  ap (λ g. model.ErrsWith (error.InvalidElement g k)) e
+      ∙ ap (λ k. model.ErrsWith (error.InvalidElement got k)) f,
+  tt,
+)
 
 -- ---- texts of values
 
-pub adds_text : (texts : List Bytes) (v : Value) (x : StrId) (bs text text' : Bytes) → v ≡ value.Str x → slice_get texts x.0 ≡ Some bs → text' ≡ appended text bs → AddsText (as_text (meant texts v)) text text' true
+pub adds_text : (texts : List Bytes) (v : Value) (x : StrId) (bs text text' : Bytes) → v ≡ value.Str x → slice_get texts x.0 ≡ Some bs →
+    text' ≡ appended text bs → AddsText (as_text (meant texts v)) text text' true
 unfolding meant
 adds_text texts v x bs text text' h at is =
     subst (λ v. AddsText (as_text (meant texts v)) text text' true) (sym h)
     (refl, is ∙ ap (appended text) (sym (get_or_from_slice_get texts x.0 bs [] at)))
 
-pub adds_digits : (texts : List Bytes) (v : Value) (z : ℤ) (text text' : Bytes) → v ≡ value.Num z → text' ≡ appended text (signed_decimal z) → AddsText (as_text (meant texts v)) text text' true
+pub adds_digits : (texts : List Bytes) (v : Value) (z : ℤ) (text text' : Bytes) → v ≡ value.Num z → text' ≡ appended text (signed_decimal z) →
+    AddsText (as_text (meant texts v)) text text' true
 unfolding meant
 adds_digits texts v z text text' h is = subst (λ v. AddsText (as_text (meant texts v)) text text' true) (sym h) (refl, is)
 
-pub adds_none : (texts : List Bytes) (v : Value) (text text' : Bytes) → ((x : StrId) → v ≡ value.Str x → ⊥) → ((z : ℤ) → v ≡ value.Num z → ⊥) → AddsText (as_text (meant texts v)) text text' false
+pub adds_none : (texts : List Bytes) (v : Value) (text text' : Bytes) → ((x : StrId) → v ≡ value.Str x → ⊥) → ((z : ℤ) → v ≡ value.Num z → ⊥) →
+    AddsText (as_text (meant texts v)) text text' false
 unfolding meant
 adds_none texts (value.Str x) text text' s n = absurd (s x refl)
 adds_none texts (value.Num z) text text' s n = absurd (n z refl)
@@ -100,28 +108,39 @@ holds_long kept full (inr p) l = p.1
 element_row : model.LibAnswer → (Bytes → model.LibAnswer) → Option Bytes → model.LibAnswer
 element_row e go o = elim o [ None ↦ e | Some bs ↦ go bs ]
 
-joins_listed : (s : store.Store) (t : store.TableOf) (sep : Bytes) (k : ℤ) (n : ℕ) (front : Option Bytes) → rows.joins s t sep k n front ≡ joins_all s sep k (rows.items t k n) front
+joins_listed : (s : store.Store) (t : store.TableOf) (sep : Bytes) (k : ℤ) (n : ℕ) (front : Option Bytes) →
+    rows.joins s t sep k n front ≡ joins_all s sep k (rows.items t k n) front
 unfolding element_row
 joins_listed s t sep k zero front = refl
 joins_listed s t sep k (suc n) front = by (as_text (tables.item t k)) (λ bs. joins_listed s t sep (k +ℤ pos 1) n (Some (rows.joined_with sep front bs)))
   where
-    by : (o : Option Bytes) → ((bs : Bytes) → rows.joins s t sep (k +ℤ pos 1) n (Some (rows.joined_with sep front bs)) ≡ joins_all s sep (k +ℤ pos 1) (rows.items t (k +ℤ pos 1) n) (Some (rows.joined_with sep front bs))) → element_row (model.ErrsWith (error.InvalidElement (kind_of (tables.item t k)) k)) (λ bs. rows.joins s t sep (k +ℤ pos 1) n (Some (rows.joined_with sep front bs))) o ≡ element_row (model.ErrsWith (error.InvalidElement (kind_of (tables.item t k)) k)) (λ bs. joins_all s sep (k +ℤ pos 1) (rows.items t (k +ℤ pos 1) n) (Some (rows.joined_with sep front bs))) o
+    by : (o : Option Bytes) → ((bs : Bytes) → rows.joins s t sep (k +ℤ pos 1) n (Some (rows.joined_with sep front bs))
+        ≡ joins_all s sep (k +ℤ pos 1) (rows.items t (k +ℤ pos 1) n) (Some (rows.joined_with sep front bs))) →
+        element_row (model.ErrsWith (error.InvalidElement (kind_of (tables.item t k)) k))
+        (λ bs. rows.joins s t sep (k +ℤ pos 1) n (Some (rows.joined_with sep front bs))) o
+        ≡ element_row (model.ErrsWith (error.InvalidElement (kind_of (tables.item t k)) k))
+        (λ bs. joins_all s sep (k +ℤ pos 1) (rows.items t (k +ℤ pos 1) n) (Some (rows.joined_with sep front bs))) o
     by None rest = refl
     by (Some bs) rest = rest bs
 
-pub joins_is : (w : LibWorld) (world : IsWorld w) (t : TableId) (may : MayUseIn w (value.Table t)) (sep : Bytes) (k : ℤ) (n : ℕ) → rows.joins (store_in w) (store.table_at (store_in w) (table_ref t)) sep k n None ≡ joins_all (store_in w) sep k (map (meant w.names) (items (table_at w.arena t) k n)) None
+pub joins_is : (w : LibWorld) (world : IsWorld w) (t : TableId) (may : MayUseIn w (value.Table t)) (sep : Bytes) (k : ℤ) (n : ℕ) →
+    rows.joins (store_in w) (store.table_at (store_in w) (table_ref t)) sep k n None
+    ≡ joins_all (store_in w) sep k (map (meant w.names) (items (table_at w.arena t) k n)) None
 joins_is w world t may sep k n =
     ap (λ (u : store.TableOf). rows.joins (store_in w) u sep k n None) (table_is w world t may)
     ∙ joins_listed (store_in w) (table_of w.names (table_at w.arena t)) sep k n None
-    ∙ ap (λ vs. joins_all (store_in w) sep k vs None) (kept.items_kept w.names w.owner world.own.interned.distinct (table_at w.arena t) k n (scripts w world t may))
+    ∙ ap (λ vs. joins_all (store_in w) sep k vs None) (kept.items_kept w.names w.owner world.own.interned.distinct (table_at w.arena t) k n
+    (scripts w world t may))
 
 -- an element with a text, and one without
-text_next : (s : store.Store) (sep : Bytes) (k : ℤ) (v : m.Value) (vs : List m.Value) (front : Option Bytes) (bs : Bytes) → as_text v ≡ Some bs → joins_all s sep k (v ∷ vs) front ≡ joins_all s sep (k +ℤ pos 1) vs (Some (rows.joined_with sep front bs))
+text_next : (s : store.Store) (sep : Bytes) (k : ℤ) (v : m.Value) (vs : List m.Value) (front : Option Bytes) (bs : Bytes) → as_text v ≡ Some bs →
+    joins_all s sep k (v ∷ vs) front ≡ joins_all s sep (k +ℤ pos 1) vs (Some (rows.joined_with sep front bs))
 unfolding element_row
 text_next s sep k v vs front bs e =
     ap (element_row (model.ErrsWith (error.InvalidElement (kind_of v) k)) (λ bs. joins_all s sep (k +ℤ pos 1) vs (Some (rows.joined_with sep front bs)))) e
 
-none_next : (s : store.Store) (sep : Bytes) (k : ℤ) (v : m.Value) (vs : List m.Value) (front : Option Bytes) → as_text v ≡ None → joins_all s sep k (v ∷ vs) front ≡ model.ErrsWith (error.InvalidElement (kind_of v) k)
+none_next : (s : store.Store) (sep : Bytes) (k : ℤ) (v : m.Value) (vs : List m.Value) (front : Option Bytes) → as_text v ≡ None →
+    joins_all s sep k (v ∷ vs) front ≡ model.ErrsWith (error.InvalidElement (kind_of v) k)
 unfolding element_row
 none_next s sep k v vs front e =
     ap (element_row (model.ErrsWith (error.InvalidElement (kind_of v) k)) (λ bs. joins_all s sep (k +ℤ pos 1) vs (Some (rows.joined_with sep front bs)))) e
@@ -136,7 +155,8 @@ front_of (suc i) full = Some full
 -- the first i of n elements are joined
 pub record Joining (texts : List Bytes) (sep : Bytes) (t : TableView) (k : ℤ) (n i : ℕ) (kept : Bytes) : Type 0 where
   pub full : Bytes
-  pub row : (s : store.Store) → joins_all s sep k (map (meant texts) (items t k n)) None ≡ joins_all s sep (k +ℤ pos i) (map (meant texts) (items t (k +ℤ pos i) (n - i))) (front_of i full)
+  pub row : (s : store.Store) → joins_all s sep k (map (meant texts) (items t k n)) None
+      ≡ joins_all s sep (k +ℤ pos i) (map (meant texts) (items t (k +ℤ pos i) (n - i))) (front_of i full)
   pub holds : Holds kept (rows.whole_text (front_of i full))
 
 module _ (texts : List Bytes) (sep : Bytes) (t : TableView) (k : ℤ) (n : ℕ) where
@@ -167,42 +187,54 @@ module _ (texts : List Bytes) (sep : Bytes) (t : TableView) (k : ℤ) (n : ℕ) 
       none_left : (i : ℕ) → i ≡ n → n - i ≡ 0
       none_left i e = omega (arith, e)
 
-  module _ (i : ℕ) (kept kept' kept'' : Bytes) (first : Bool) (v : Value) (z : ℤ) (l : i < n) (at : z ≡ k +ℤ pos i) (is : v ≡ item t z) (j : Joining texts sep t k n i kept) where
+  module _ (i : ℕ) (kept kept' kept'' : Bytes) (first : Bool) (v : Value) (z : ℤ) (l : i < n) (at : z ≡ k +ℤ pos i) (is : v ≡ item t z)
+      (j : Joining texts sep t k n i kept) where
     left : n - i ≡ suc (n - (i + 1))
     left = omega (arith, l)
 
     -- the row at this element
-    here : (s : store.Store) → joins_all s sep k (map (meant texts) (items t k n)) None ≡ joins_all s sep (k +ℤ pos i) (meant texts v ∷ map (meant texts) (items t ((k +ℤ pos i) +ℤ pos 1) (n - (i + 1)))) (front_of i j.full)
+    here : (s : store.Store) → joins_all s sep k (map (meant texts) (items t k n)) None
+        ≡ joins_all s sep (k +ℤ pos i) (meant texts v ∷ map (meant texts) (items t ((k +ℤ pos i) +ℤ pos 1) (n - (i + 1)))) (front_of i j.full)
     here s =
         j.row s
         ∙ ap (λ m. joins_all s sep (k +ℤ pos i) (map (meant texts) (items t (k +ℤ pos i) m)) (front_of i j.full)) left
-        ∙ ap (λ u. joins_all s sep (k +ℤ pos i) (meant texts u ∷ map (meant texts) (items t ((k +ℤ pos i) +ℤ pos 1) (n - (i + 1)))) (front_of i j.full)) (sym (is ∙ ap (item t) at))
+        ∙ ap (λ u. joins_all s sep (k +ℤ pos i) (meant texts u ∷ map (meant texts) (items t ((k +ℤ pos i) +ℤ pos 1) (n - (i + 1)))) (front_of i j.full))
+        (sym (is ∙ ap (item t) at))
 
-    pub joining_fails : (e : Ending) → AddsText (as_text (meant texts v)) kept' kept'' false → Fails texts (model.ErrsWith (error.InvalidElement (kind_of (meant texts v)) z)) e → (s : store.Store) → Fails texts (joins_all s sep k (map (meant texts) (items t k n)) None) e
+    pub joining_fails : (e : Ending) → AddsText (as_text (meant texts v)) kept' kept'' false →
+        Fails texts (model.ErrsWith (error.InvalidElement (kind_of (meant texts v)) z)) e → (s : store.Store) →
+        Fails texts (joins_all s sep k (map (meant texts) (items t k n)) None) e
     joining_fails e adds h s = by (as_text (meant texts v)) refl adds
       where
-        by : (o : Option Bytes) → as_text (meant texts v) ≡ o → AddsText o kept' kept'' false → Fails texts (joins_all s sep k (map (meant texts) (items t k n)) None) e
+        by : (o : Option Bytes) → as_text (meant texts v) ≡ o → AddsText o kept' kept'' false →
+            Fails texts (joins_all s sep k (map (meant texts) (items t k n)) None) e
         by None is_none adds =
             subst (λ row. Fails texts row e)
             (ap (λ z. model.ErrsWith (error.InvalidElement (kind_of (meant texts v)) z)) at
-            ∙ sym (here s ∙ none_next s sep (k +ℤ pos i) (meant texts v) (map (meant texts) (items t ((k +ℤ pos i) +ℤ pos 1) (n - (i + 1)))) (front_of i j.full) is_none)) h
+            ∙ sym (here s ∙ none_next s sep (k +ℤ pos i) (meant texts v) (map (meant texts) (items t ((k +ℤ pos i) +ℤ pos 1) (n - (i + 1))))
+            (front_of i j.full) is_none)) h
         by (Some bs) is_some adds = absurd (clash (sym adds.0))
 
     not_first : (i : ℕ) → nat_eq (suc i) 0 ≡ false
     not_first i = grind (arith, nat_tests)
 
     -- what is kept with it
-    holds_next : (bs : Bytes) → first ≡ nat_eq i 0 → kept' ≡ parted first sep kept → kept'' ≡ appended kept' bs → Holds kept'' (rows.joined_with sep (front_of i j.full) bs)
+    holds_next : (bs : Bytes) → first ≡ nat_eq i 0 → kept' ≡ parted first sep kept → kept'' ≡ appended kept' bs →
+        Holds kept'' (rows.joined_with sep (front_of i j.full) bs)
     holds_next bs is_first part adds =
-        subst (λ text. Holds text (rows.joined_with sep (front_of i j.full) bs)) (sym (adds ∙ ap (λ text. appended text bs) (part ∙ ap (λ b. parted b sep kept) is_first)))
+        subst (λ text. Holds text (rows.joined_with sep (front_of i j.full) bs))
+        (sym (adds ∙ ap (λ text. appended text bs) (part ∙ ap (λ b. parted b sep kept) is_first)))
         (by i j.full j.holds)
       where
-        by : (i : ℕ) (full : Bytes) → Holds kept (rows.whole_text (front_of i full)) → Holds (appended (parted (nat_eq i 0) sep kept) bs) (rows.joined_with sep (front_of i full) bs)
+        by : (i : ℕ) (full : Bytes) → Holds kept (rows.whole_text (front_of i full)) →
+            Holds (appended (parted (nat_eq i 0) sep kept) bs) (rows.joined_with sep (front_of i full) bs)
         by zero full h = holds_more kept [] bs h
         by (suc i) full h =
-            subst (λ b. Holds (appended (parted b sep kept) bs) ((full ++ sep) ++ bs)) (sym (not_first i)) (holds_more (appended kept sep) (full ++ sep) bs (holds_more kept full sep h))
+            subst (λ b. Holds (appended (parted b sep kept) bs) ((full ++ sep) ++ bs)) (sym (not_first i))
+            (holds_more (appended kept sep) (full ++ sep) bs (holds_more kept full sep h))
 
-    pub joining_more : first ≡ nat_eq i 0 → kept' ≡ parted first sep kept → AddsText (as_text (meant texts v)) kept' kept'' true → Joining texts sep t k n (i + 1) kept''
+    pub joining_more : first ≡ nat_eq i 0 → kept' ≡ parted first sep kept → AddsText (as_text (meant texts v)) kept' kept'' true →
+        Joining texts sep t k n (i + 1) kept''
     joining_more is_first part adds = by (as_text (meant texts v)) refl adds
       where
         next : (k +ℤ pos i) +ℤ pos 1 ≡ k +ℤ pos (i + 1)
@@ -219,7 +251,8 @@ module _ (texts : List Bytes) (sep : Bytes) (t : TableView) (k : ℤ) (n : ℕ) 
               full = full;
               row = λ s.
                   here s
-                  ∙ text_next s sep (k +ℤ pos i) (meant texts v) (map (meant texts) (items t ((k +ℤ pos i) +ℤ pos 1) (n - (i + 1)))) (front_of i j.full) bs is_some
+                  ∙ text_next s sep (k +ℤ pos i) (meant texts v) (map (meant texts) (items t ((k +ℤ pos i) +ℤ pos 1) (n - (i + 1))))
+                  (front_of i j.full) bs is_some
                   ∙ ap (λ z. joins_all s sep z (map (meant texts) (items t z (n - (i + 1)))) (Some full)) next
                   ∙ ap (joins_all s sep (k +ℤ pos (i + 1)) (map (meant texts) (items t (k +ℤ pos (i + 1)) (n - (i + 1))))) (sym (one_more full));
               holds = subst (λ o. Holds kept'' (rows.whole_text o)) (sym (one_more full)) (holds_next bs is_first part adds.1);
@@ -227,17 +260,20 @@ module _ (texts : List Bytes) (sep : Bytes) (t : TableView) (k : ℤ) (n : ℕ) 
 
 -- ---- the text of all
 
-pub gives_joined : (s : store.Store) (sep : Bytes) (k : ℤ) (vs : List m.Value) (kept : Bytes) → Joins sep k vs kept → length kept ≤ longest_string → joins_all s sep k vs None ≡ core.gives s (m.Text kept)
+pub gives_joined : (s : store.Store) (sep : Bytes) (k : ℤ) (vs : List m.Value) (kept : Bytes) → Joins sep k vs kept → length kept ≤ longest_string →
+    joins_all s sep k vs None ≡ core.gives s (m.Text kept)
 gives_joined s sep k vs kept j l =
     let all = holds_all kept j.full j.holds l in
     j.row s
     ∙ ap (λ bs. if nat_le (length bs) longest_string then core.gives s (m.Text bs) else model.ErrsWith error.StringTooLarge) (sym all)
     ∙ ap (λ b. if b then core.gives s (m.Text kept) else model.ErrsWith error.StringTooLarge) (few (length kept) longest_string l)
 
-pub joined_fails : (texts : List Bytes) (s : store.Store) (sep : Bytes) (k : ℤ) (vs : List m.Value) (kept : Bytes) → Joins sep k vs kept → longest_string < length kept → Fails texts (joins_all s sep k vs None) (RunError err.StringTooLarge)
+pub joined_fails : (texts : List Bytes) (s : store.Store) (sep : Bytes) (k : ℤ) (vs : List m.Value) (kept : Bytes) → Joins sep k vs kept →
+    longest_string < length kept → Fails texts (joins_all s sep k vs None) (RunError err.StringTooLarge)
 unfolding meant_error
 joined_fails texts s sep k vs kept j l = (
-  j.row s ∙ ap (λ b. if b then core.gives s (m.Text j.full) else model.ErrsWith error.StringTooLarge) (many (length j.full) longest_string (holds_long kept j.full j.holds l)),
+  j.row s ∙ ap (λ b. if b then core.gives s (m.Text j.full) else model.ErrsWith error.StringTooLarge)
+      (many (length j.full) longest_string (holds_long kept j.full j.holds l)),
   tt,
 )
 
@@ -252,20 +288,30 @@ table_texts w world t may =
 
 -- ---- the row
 
-pub joined_from_is : (w : LibWorld) (world : IsWorld w) (t : TableId) (may : MayUseIn w (value.Table t)) (sep : Bytes) (args : List m.Value) (first end : ℤ) → first ≡ pos 1 → end ≡ pos (rule.border (table_at w.arena t)) → joined_from (store_in w) (table_ref t) sep args ≡ number_or builtin.TableConcat 2 args first (λ i. number_or builtin.TableConcat 3 args end (λ j. rows.joins (store_in w) (store.table_at (store_in w) (table_ref t)) sep i (count_between i j) None))
+pub joined_from_is : (w : LibWorld) (world : IsWorld w) (t : TableId) (may : MayUseIn w (value.Table t)) (sep : Bytes) (args : List m.Value)
+    (first end : ℤ) → first ≡ pos 1 → end ≡ pos (rule.border (table_at w.arena t)) →
+    joined_from (store_in w) (table_ref t) sep args ≡ number_or builtin.TableConcat 2 args first
+    (λ i. number_or builtin.TableConcat 3 args end (λ j. rows.joins (store_in w) (store.table_at (store_in w) (table_ref t)) sep i (count_between i j) None))
 joined_from_is w world t may sep args first end one is_end =
-    let rest = λ (a b : ℤ). number_or builtin.TableConcat 2 args a (λ i. number_or builtin.TableConcat 3 args b (λ j. rows.joins (store_in w) (store.table_at (store_in w) (table_ref t)) sep i (count_between i j) None)) in
+    let rest = λ (a b : ℤ). number_or builtin.TableConcat 2 args a (λ i. number_or builtin.TableConcat 3 args b
+    (λ j. rows.joins (store_in w) (store.table_at (store_in w) (table_ref t)) sep i (count_between i j) None)) in
     ap (λ b. rest (pos 1) b) (end_is w world t may ∙ sym is_end) ∙ ap (λ a. rest a end) (sym one)
 
 -- from a world with more texts
-pub concat_since : (v w u : LibWorld) (t : TableId) (sep : Bytes) (args : List Value) (rs rs' : List Value) (result : Result (Unit {0}) Ending) → store_in v ≡ store_in w → map (meant v.names) args ≡ map (meant w.names) args → Runs v u rs rs' result (joined_from (store_in v) (table_ref t) sep (map (meant v.names) args)) → Runs w u rs rs' result (joined_from (store_in w) (table_ref t) sep (map (meant w.names) args))
+pub concat_since : (v w u : LibWorld) (t : TableId) (sep : Bytes) (args : List Value) (rs rs' : List Value) (result : Result (Unit {0}) Ending) →
+    store_in v ≡ store_in w → map (meant v.names) args ≡ map (meant w.names) args →
+    Runs v u rs rs' result (joined_from (store_in v) (table_ref t) sep (map (meant v.names) args)) →
+    Runs w u rs rs' result (joined_from (store_in w) (table_ref t) sep (map (meant w.names) args))
 concat_since v w u t sep args rs rs' result e f h =
     subst (λ row. Runs w u rs rs' result row)
     (ap (λ s. joined_from s (table_ref t) sep (map (meant v.names) args)) e ∙ ap (joined_from (store_in w) (table_ref t) sep) f)
     (runs_since v w u rs rs' result (joined_from (store_in v) (table_ref t) sep (map (meant v.names) args)) e h)
 
 -- where the table, the separator and the count are known by equations
-pub joins_there : (w : LibWorld) (world : IsWorld w) (t : TableId) (may : MayUseIn w (value.Table t)) (u : TableView) (x : ℕ) (sep : Bytes) (k : ℤ) (n count : ℕ) → u ≡ table_at w.arena t → slice_get w.names x ≡ Some sep → n ≡ count → rows.joins (store_in w) (store.table_at (store_in w) (table_ref t)) (bytes_at w.names x) k count None ≡ joins_all (store_in w) sep k (map (meant w.names) (items u k n)) None
+pub joins_there : (w : LibWorld) (world : IsWorld w) (t : TableId) (may : MayUseIn w (value.Table t)) (u : TableView) (x : ℕ) (sep : Bytes) (k : ℤ)
+    (n count : ℕ) → u ≡ table_at w.arena t → slice_get w.names x ≡ Some sep → n ≡ count →
+    rows.joins (store_in w) (store.table_at (store_in w) (table_ref t)) (bytes_at w.names x) k count None
+    ≡ joins_all (store_in w) sep k (map (meant w.names) (items u k n)) None
 joins_there w world t may u x sep k n count is at e =
     ap (λ sep. rows.joins (store_in w) (store.table_at (store_in w) (table_ref t)) sep k count None) (get_or_from_slice_get w.names x sep [] at)
     ∙ ap (λ n. rows.joins (store_in w) (store.table_at (store_in w) (table_ref t)) sep k n None) (sym e)

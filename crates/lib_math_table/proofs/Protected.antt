@@ -30,14 +30,18 @@ module _ (w : LibWorld) (world : IsWorld w) (t : TableId) (may : MayUseIn w (val
   pub meta_use : (m : TableId) → Some m ≡ (table_at w.arena t).meta → MayUseIn w (value.Table m)
   meta_use m e = subst (OfSome (λ m. MayUseIn w (value.Table m))) (sym e) (meta_usable w.names w.globals w.arena w.owner world.own t may)
 
-  said_is : (u : TableId) → MayUseIn w (value.Table u) → said_by (store_in w) (Some (table_ref u)) (codes "__metatable") ≡ meant w.names (rule.get (table_at w.arena u) (value.Str w.globals.meta.metatable))
+  said_is : (u : TableId) → MayUseIn w (value.Table u) → said_by (store_in w) (Some (table_ref u)) (codes "__metatable")
+      ≡ meant w.names (rule.get (table_at w.arena u) (value.Str w.globals.meta.metatable))
   unfolding meant
   said_is u may_use =
       let at = world.own.globals.names.metatable in
-      ap (λ bs. tables.get (store.table_at (store_in w) (table_ref u)) (m.Text bs)) (sym (get_or_from_slice_get w.names w.globals.meta.metatable.0 (codes "__metatable") [] at))
-      ∙ get_part w.names w.globals w.arena w.owner world.own u (value.Str w.globals.meta.metatable) may_use (tt, slice_get_within w.names w.globals.meta.metatable.0 (codes "__metatable") at)
+      ap (λ bs. tables.get (store.table_at (store_in w) (table_ref u)) (m.Text bs))
+      (sym (get_or_from_slice_get w.names w.globals.meta.metatable.0 (codes "__metatable") [] at))
+      ∙ get_part w.names w.globals w.arena w.owner world.own u (value.Str w.globals.meta.metatable) may_use
+      (tt, slice_get_within w.names w.globals.meta.metatable.0 (codes "__metatable") at)
 
-  pub protected_some : (u : TableId) (v : Value) → Some u ≡ (table_at w.arena t).meta → v ≡ rule.get (table_at w.arena u) (value.Str w.globals.meta.metatable) → not (is_nil v) ≡ core.is_protected (store_in w) (table_ref t)
+  pub protected_some : (u : TableId) (v : Value) → Some u ≡ (table_at w.arena t).meta →
+      v ≡ rule.get (table_at w.arena u) (value.Str w.globals.meta.metatable) → not (is_nil v) ≡ core.is_protected (store_in w) (table_ref t)
   protected_some u v e is =
       ap not (sym (nil_kept w.names v))
       ∙ ap (λ v. not (tables.is_nil (meant w.names v))) is

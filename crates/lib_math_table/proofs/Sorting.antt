@@ -34,7 +34,8 @@ module _ {X : Type 0} (lt : X → X → Bool) where
   rises (x ∷ []) h = tt
   rises (x ∷ y ∷ xs) h = (h 0 x (omega arith) (omega arith), rises (y ∷ xs) (tail_sorted x (y ∷ xs) h))
 
-pub rises_map : {X Y : Type 0} (lt : X → X → Bool) (lt' : Y → Y → Bool) (f : X → Y) → ((x y : X) → lt x y ≡ false → lt' (f x) (f y) ≡ false) → (xs : List X) → Rises lt xs → Rises lt' (map f xs)
+pub rises_map : {X Y : Type 0} (lt : X → X → Bool) (lt' : Y → Y → Bool) (f : X → Y) → ((x y : X) → lt x y ≡ false → lt' (f x) (f y) ≡ false) →
+    (xs : List X) → Rises lt xs → Rises lt' (map f xs)
 unfolding Rises
 rises_map lt lt' f on [] h = tt
 rises_map lt lt' f on (x ∷ []) h = tt
@@ -87,7 +88,8 @@ module _ {K : Type 0} (R : K → K → Ordering) (o : IsTotalOrder R) (exact : C
       ∙ sym (ap (into lt b) (last a) ∙ behind b a [] (turned a b h) ∙ ap (λ l. a ∷ l) (last b))
   lesser_first a b (w ∷ l) h = by (lt b w) (lt a w) refl refl (lesser_first a b l h)
     where
-      by : (c d : Bool) → lt b w ≡ c → lt a w ≡ d → into lt a (into lt b l) ≡ into lt b (into lt a l) → into lt a (into lt b (w ∷ l)) ≡ into lt b (into lt a (w ∷ l))
+      by : (c d : Bool) → lt b w ≡ c → lt a w ≡ d → into lt a (into lt b l) ≡ into lt b (into lt a l) →
+          into lt a (into lt b (w ∷ l)) ≡ into lt b (into lt a (w ∷ l))
       by true d e f rest =
           ap (into lt a) (before b w l e) ∙ before a b (w ∷ l) (ap is_lt h)
           ∙ sym (ap (into lt b) (before a w l (further a b w h e)) ∙ behind b a (w ∷ l) (turned a b h) ∙ ap (λ l. a ∷ l) (before b w l e))

@@ -21,7 +21,8 @@ pub returns-else-len-le-LONGEST_STRING : goal.returns-else-len-le-LONGEST_STRING
 returns-else-len-le-LONGEST_STRING c =
     let text = c.args.text.now.items in
     let over : longest_string < length text = omega (arith, c.len.ensures, c.args.text.now.ok.0, c.if-len-le-LONGEST_STRING.false) in
-    adds_digits c.args.names.now c.args.v.now c.in-Num.n text text c.in-Num.is (sym (ap (λ b. if b then text ++ signed_decimal c.in-Num.n else text) (many (length text) longest_string over)))
+    adds_digits c.args.names.now c.args.v.now c.in-Num.n text text c.in-Num.is (sym
+    (ap (λ b. if b then text ++ signed_decimal c.in-Num.n else text) (many (length text) longest_string over)))
 
 pub returns-in_default : goal.returns-in_default
 returns-in_default c = adds_none c.args.names.now c.args.v.now c.args.text.now.items c.args.text.now.items c.in_default.not-Str c.in_default.not-Num

@@ -12,18 +12,21 @@ pub text_or-requires-clause-texts : goal.text_or-requires-clause-texts
 text_or-requires-clause-texts c = have_texts c.args.world.now c.args.args.now c.requires.args
 
 pub concat_with-requires-clause-world : goal.concat_with-requires-clause-world
-concat_with-requires-clause-world c = (names_kept c.args.world.now c.text_or.new.names c.text_or.ensures.extends c.text_or.ensures.texts c.requires.world).world
+concat_with-requires-clause-world c =
+    (names_kept c.args.world.now c.text_or.new.names c.text_or.ensures.extends c.text_or.ensures.texts c.requires.world).world
 
 pub concat_with-requires-clause-table : goal.concat_with-requires-clause-table
 concat_with-requires-clause-table c =
     let w = c.args.world.now in
-    may_use_on w (with_names w c.text_or.new.names) (names_kept w c.text_or.new.names c.text_or.ensures.extends c.text_or.ensures.texts c.requires.world) (Table c.in-Ok.t)
+    may_use_on w (with_names w c.text_or.new.names) (names_kept w c.text_or.new.names c.text_or.ensures.extends c.text_or.ensures.texts c.requires.world)
+    (Table c.in-Ok.t)
     (used_at w _ 0 _ c.requires.args c.in-Ok.ensures.there)
 
 pub concat_with-requires-clause-args : goal.concat_with-requires-clause-args
 concat_with-requires-clause-args c =
     let w = c.args.world.now in
-    all_use_on w (with_names w c.text_or.new.names) (names_kept w c.text_or.new.names c.text_or.ensures.extends c.text_or.ensures.texts c.requires.world) c.args.args.now c.requires.args
+    all_use_on w (with_names w c.text_or.new.names)
+    (names_kept w c.text_or.new.names c.text_or.ensures.extends c.text_or.ensures.texts c.requires.world) c.args.args.now c.requires.args
 
 pub returns-in-Ok-text_or-clause-runs : goal.returns-in-Ok-text_or-clause-runs
 returns-in-Ok-text_or-clause-runs c =

@@ -21,7 +21,8 @@ pub returns-in-Err-clause-runs : goal.returns-in-Err-clause-runs
 returns-in-Err-clause-runs c =
     let w = c.args.world.now in
     let e = c.in-Err.e in
-    ends w _ e _ (same_fails w.names _ _ e (joined_from_is w c.requires.world c.args.t c.requires.table (bytes_at w.names c.args.separator.0) (map (meant w.names) c.args.args.now) c.one.result _ c.one.ensures refl) (c.in-Err.ensures _))
+    ends w _ e _ (same_fails w.names _ _ e (joined_from_is w c.requires.world c.args.t c.requires.table (bytes_at w.names c.args.separator.0)
+    (map (meant w.names) c.args.args.now) c.one.result _ c.one.ensures refl) (c.in-Err.ensures _))
 
 pub table-requires : goal.table-requires
 table-requires c = c.requires.table.0.1
@@ -30,8 +31,10 @@ pub returns-in-Err-number_or-clause-runs : goal.returns-in-Err-number_or-clause-
 returns-in-Err-number_or-clause-runs c =
     let w = c.args.world.now in
     let e = c.in-Err-number_or.e in
-    let end : c.end_of-end.result ≡ pos (rule.border (table_at w.arena c.args.t)) = c.end_of-end.ensures ∙ ap (λ (t : TableView). pos (rule.border t)) c.table.ensures in
-    ends w _ e _ (same_fails w.names _ _ e (joined_from_is w c.requires.world c.args.t c.requires.table (bytes_at w.names c.args.separator.0) (map (meant w.names) c.args.args.now) c.one.result c.end_of-end.result c.one.ensures end)
+    let end : c.end_of-end.result ≡ pos (rule.border (table_at w.arena c.args.t)) = c.end_of-end.ensures
+    ∙ ap (λ (t : TableView). pos (rule.border t)) c.table.ensures in
+    ends w _ e _ (same_fails w.names _ _ e (joined_from_is w c.requires.world c.args.t c.requires.table (bytes_at w.names c.args.separator.0)
+    (map (meant w.names) c.args.args.now) c.one.result c.end_of-end.result c.one.ensures end)
     (found_fails _ w.names e c.in-Ok.ensures (c.in-Err-number_or.ensures _)))
 
 pub returns-in-Ok-joined-clause-runs : goal.returns-in-Ok-joined-clause-runs
@@ -39,15 +42,20 @@ returns-in-Ok-joined-clause-runs c =
     let w = c.args.world.now in
     let u = c.give_text.new.world in
     let r = c.give_text.result in
-    let end : c.end_of-end.result ≡ pos (rule.border (table_at w.arena c.args.t)) = c.end_of-end.ensures ∙ ap (λ (t : TableView). pos (rule.border t)) c.table.ensures in
-    same_runs w u _ _ r _ _ (joined_from_is w c.requires.world c.args.t c.requires.table (bytes_at w.names c.args.separator.0) (map (meant w.names) c.args.args.now) c.one.result c.end_of-end.result c.one.ensures end)
+    let end : c.end_of-end.result ≡ pos (rule.border (table_at w.arena c.args.t)) = c.end_of-end.ensures
+    ∙ ap (λ (t : TableView). pos (rule.border t)) c.table.ensures in
+    same_runs w u _ _ r _ _ (joined_from_is w c.requires.world c.args.t c.requires.table (bytes_at w.names c.args.separator.0)
+    (map (meant w.names) c.args.args.now) c.one.result c.end_of-end.result c.one.ensures end)
     (found _ w u _ _ r c.in-Ok.ensures (found _ w u _ _ r c.in-Ok-number_or.ensures
-    (same_runs w u _ _ r _ _ (c.in-Ok-joined.ensures ∙ ap (λ bs. core.gives (store_in w) (m.Text bs)) (sym c.as_slice.ensures.value)) c.give_text.ensures.runs)))
+    (same_runs w u _ _ r _ _ (c.in-Ok-joined.ensures ∙ ap (λ bs. core.gives (store_in w) (m.Text bs))
+    (sym c.as_slice.ensures.value)) c.give_text.ensures.runs)))
 
 pub returns-in-Err-joined-clause-runs : goal.returns-in-Err-joined-clause-runs
 returns-in-Err-joined-clause-runs c =
     let w = c.args.world.now in
     let e = c.in-Err-joined.e in
-    let end : c.end_of-end.result ≡ pos (rule.border (table_at w.arena c.args.t)) = c.end_of-end.ensures ∙ ap (λ (t : TableView). pos (rule.border t)) c.table.ensures in
-    ends w _ e _ (same_fails w.names _ _ e (joined_from_is w c.requires.world c.args.t c.requires.table (bytes_at w.names c.args.separator.0) (map (meant w.names) c.args.args.now) c.one.result c.end_of-end.result c.one.ensures end)
+    let end : c.end_of-end.result ≡ pos (rule.border (table_at w.arena c.args.t)) = c.end_of-end.ensures
+    ∙ ap (λ (t : TableView). pos (rule.border t)) c.table.ensures in
+    ends w _ e _ (same_fails w.names _ _ e (joined_from_is w c.requires.world c.args.t c.requires.table (bytes_at w.names c.args.separator.0)
+    (map (meant w.names) c.args.args.now) c.one.result c.end_of-end.result c.one.ensures end)
     (found_fails _ w.names e c.in-Ok.ensures (found_fails _ w.names e c.in-Ok-number_or.ensures c.in-Err-joined.ensures)))

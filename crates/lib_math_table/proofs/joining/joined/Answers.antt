@@ -33,7 +33,8 @@ returns-then-len-gt-LONGEST_STRING c =
     let there = joins_there w c.requires.world c.args.t c.requires.table c.table-table.result.now c.args.separator.0 c.bytes.result.now c.args.first c.count_between-count.result (count_between c.args.first c.args.last) c.table-table.ensures c.bytes.ensures.text c.count_between-count.ensures.count in
     let over : longest_string < length c.join.new.text.items = omega (arith, c.len.ensures, c.join.new.text.ok.0, c.if-len-gt-LONGEST_STRING.true) in
     same_fails w.names _ _ (RunError StringTooLarge) there
-    (joined_fails w.names (store_in w) c.bytes.result.now c.args.first (map (meant w.names) (items c.table-table.result.now c.args.first c.count_between-count.result)) c.join.new.text.items c.in-Ok.ensures over)
+    (joined_fails w.names (store_in w) c.bytes.result.now c.args.first (map (meant w.names)
+    (items c.table-table.result.now c.args.first c.count_between-count.result)) c.join.new.text.items c.in-Ok.ensures over)
 
 pub returns : goal.returns
 returns c =
@@ -41,4 +42,5 @@ returns c =
     let there = joins_there w c.requires.world c.args.t c.requires.table c.table-table.result.now c.args.separator.0 c.bytes.result.now c.args.first c.count_between-count.result (count_between c.args.first c.args.last) c.table-table.ensures c.bytes.ensures.text c.count_between-count.ensures.count in
     let within : length c.join.new.text.items ≤ longest_string = omega (arith, c.len.ensures, c.join.new.text.ok.0, c.if-len-gt-LONGEST_STRING.false) in
     there
-    ∙ gives_joined (store_in w) c.bytes.result.now c.args.first (map (meant w.names) (items c.table-table.result.now c.args.first c.count_between-count.result)) c.join.new.text.items c.in-Ok.ensures within
+    ∙ gives_joined (store_in w) c.bytes.result.now c.args.first (map (meant w.names)
+    (items c.table-table.result.now c.args.first c.count_between-count.result)) c.join.new.text.items c.in-Ok.ensures within

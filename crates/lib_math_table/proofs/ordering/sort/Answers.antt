@@ -31,7 +31,8 @@ returns-then-is_frozen-clause-runs c rs =
     let e = RunError ReadonlyTable in
     let may = used_at w _ 0 _ c.requires.args c.in-Ok.ensures.there in
     ends w _ e _ (found_fails _ w.names e (c.in-Ok.ensures.checks w.names)
-    (frozen_fails w c.requires.world c.in-Ok.t may _ (ap (λ (t : TableView). t.is_frozen) (sym c.table-table.ensures) ∙ sym c.is_frozen.ensures ∙ c.if-is_frozen.true)))
+    (frozen_fails w c.requires.world c.in-Ok.t may _ (ap (λ (t : TableView). t.is_frozen) (sym c.table-table.ensures) ∙ sym c.is_frozen.ensures
+    ∙ c.if-is_frozen.true)))
 
 pub sorted-requires : goal.sorted-requires
 sorted-requires c =
@@ -40,7 +41,8 @@ sorted-requires c =
     let may = used_at w _ 0 _ c.requires.args c.in-Ok.ensures.there in
     let vs = c.as_slice.result.now in
     let is : vs ≡ items (table_at w.arena t) (pos 1) (rule.border (table_at w.arena t)) =
-    elements_at vs c.table-table.result.now (table_at w.arena t) c.one-2.result c.end_of.result c.count_between-count.result (c.as_slice.ensures.value ∙ c.in-Ok-items.ensures) c.table-table.ensures c.one-2.ensures c.end_of.ensures
+    elements_at vs c.table-table.result.now (table_at w.arena t) c.one-2.result c.end_of.result c.count_between-count.result
+    (c.as_slice.ensures.value ∙ c.in-Ok-items.ensures) c.table-table.ensures c.one-2.ensures c.end_of.ensures
     (c.count_between-count.ensures.count ∙ ap (λ k. count_between k c.end_of.result) (c.one.ensures ∙ sym c.one-2.ensures)) in
     have_texts w vs (elements_used w c.requires.world t may vs is)
 
@@ -51,11 +53,14 @@ returns-in-Err-sorted-clause-runs c rs =
     let may = used_at w _ 0 _ c.requires.args c.in-Ok.ensures.there in
     let vs = c.as_slice.result.now in
     let is : vs ≡ items (table_at w.arena t) (pos 1) (rule.border (table_at w.arena t)) =
-    elements_at vs c.table-table.result.now (table_at w.arena t) c.one-2.result c.end_of.result c.count_between-count.result (c.as_slice.ensures.value ∙ c.in-Ok-items.ensures) c.table-table.ensures c.one-2.ensures c.end_of.ensures
+    elements_at vs c.table-table.result.now (table_at w.arena t) c.one-2.result c.end_of.result c.count_between-count.result
+    (c.as_slice.ensures.value ∙ c.in-Ok-items.ensures) c.table-table.ensures c.one-2.ensures c.end_of.ensures
     (c.count_between-count.ensures.count ∙ ap (λ k. count_between k c.end_of.result) (c.one.ensures ∙ sym c.one-2.ensures)) in
-    let thawed : (table_at w.arena t).is_frozen ≡ false = ap (λ (t : TableView). t.is_frozen) (sym c.table-table.ensures) ∙ sym c.is_frozen.ensures ∙ c.if-is_frozen.false in
+    let thawed : (table_at w.arena t).is_frozen ≡ false = ap (λ (t : TableView). t.is_frozen) (sym c.table-table.ensures) ∙ sym c.is_frozen.ensures
+    ∙ c.if-is_frozen.false in
     let e = c.in-Err-sorted.e in
-    ends w _ e _ (found_fails _ w.names e (c.in-Ok.ensures.checks w.names) (sort_fails w c.requires.world t may vs e thawed is (c.in-Err-sorted.ensures.sorts (store_in w) (table_ref t))))
+    ends w _ e _ (found_fails _ w.names e (c.in-Ok.ensures.checks w.names) (sort_fails w c.requires.world t may vs e thawed is
+    (c.in-Err-sorted.ensures.sorts (store_in w) (table_ref t))))
 
 pub table_mut-requires : goal.table_mut-requires
 table_mut-requires c = (used_at c.args.world.now _ 0 _ c.requires.args c.in-Ok.ensures.there).0.1
@@ -64,7 +69,8 @@ pub put_all-requires : goal.put_all-requires
 put_all-requires c =
     let vs = c.as_slice.result.now in
     let moved = ap length c.as_slice-2.ensures.value ∙ length_permutation vs c.in-Ok-sorted.sorted.items c.in-Ok-sorted.ensures.moves in
-    let count = ap length (c.as_slice.ensures.value ∙ c.in-Ok-items.ensures) ∙ length_items c.table-table.result.now c.one-2.result c.count_between-count.result in
+    let count = ap length (c.as_slice.ensures.value ∙ c.in-Ok-items.ensures)
+    ∙ length_items c.table-table.result.now c.one-2.result c.count_between-count.result in
     omega (arith, ints, moved, count, c.count_between-count.ensures.within, c.one.ensures, c.one-3.ensures)
 
 pub returns-in-Ok-put_all-clause-runs : goal.returns-in-Ok-put_all-clause-runs
@@ -74,9 +80,11 @@ returns-in-Ok-put_all-clause-runs c rs =
     let may = used_at w _ 0 _ c.requires.args c.in-Ok.ensures.there in
     let vs = c.as_slice.result.now in
     let is : vs ≡ items (table_at w.arena t) (pos 1) (rule.border (table_at w.arena t)) =
-    elements_at vs c.table-table.result.now (table_at w.arena t) c.one-2.result c.end_of.result c.count_between-count.result (c.as_slice.ensures.value ∙ c.in-Ok-items.ensures) c.table-table.ensures c.one-2.ensures c.end_of.ensures
+    elements_at vs c.table-table.result.now (table_at w.arena t) c.one-2.result c.end_of.result c.count_between-count.result
+    (c.as_slice.ensures.value ∙ c.in-Ok-items.ensures) c.table-table.ensures c.one-2.ensures c.end_of.ensures
     (c.count_between-count.ensures.count ∙ ap (λ k. count_between k c.end_of.result) (c.one.ensures ∙ sym c.one-2.ensures)) in
-    let thawed : (table_at w.arena t).is_frozen ≡ false = ap (λ (t : TableView). t.is_frozen) (sym c.table-table.ensures) ∙ sym c.is_frozen.ensures ∙ c.if-is_frozen.false in
+    let thawed : (table_at w.arena t).is_frozen ≡ false = ap (λ (t : TableView). t.is_frozen) (sym c.table-table.ensures) ∙ sym c.is_frozen.ensures
+    ∙ c.if-is_frozen.false in
     let ws = c.in-Ok-sorted.sorted.items in
     let used = sorted_used w vs ws c.in-Ok-sorted.ensures.moves (elements_used w c.requires.world t may vs is) in
     let now : c.put_all.new.table ≡ put_all (table_at w.arena t) (pos 1) ws =
@@ -84,7 +92,8 @@ returns-in-Ok-put_all-clause-runs c rs =
     ∙ ap (λ t. put_all t c.one-3.result c.as_slice-2.result.now) c.table_mut.ensures.value
     ∙ ap (λ k. put_all (table_at w.arena t) k c.as_slice-2.result.now) c.one-3.ensures
     ∙ ap (put_all (table_at w.arena t) (pos 1)) c.as_slice-2.ensures.value in
-    found _ w (with_changed w t c.put_all.new.table) rs rs (Ok tt) (c.in-Ok.ensures.checks w.names) (sort_runs w c.requires.world t may c.put_all.new.table vs ws rs tt thawed is c.in-Ok-sorted.ensures.sorts used now)
+    found _ w (with_changed w t c.put_all.new.table) rs rs (Ok tt) (c.in-Ok.ensures.checks w.names)
+    (sort_runs w c.requires.world t may c.put_all.new.table vs ws rs tt thawed is c.in-Ok-sorted.ensures.sorts used now)
 
 pub returns-in-Ok-put_all-clause-keeps : goal.returns-in-Ok-put_all-clause-keeps
 returns-in-Ok-put_all-clause-keeps c =
@@ -93,9 +102,11 @@ returns-in-Ok-put_all-clause-keeps c =
     let may = used_at w _ 0 _ c.requires.args c.in-Ok.ensures.there in
     let vs = c.as_slice.result.now in
     let is : vs ≡ items (table_at w.arena t) (pos 1) (rule.border (table_at w.arena t)) =
-    elements_at vs c.table-table.result.now (table_at w.arena t) c.one-2.result c.end_of.result c.count_between-count.result (c.as_slice.ensures.value ∙ c.in-Ok-items.ensures) c.table-table.ensures c.one-2.ensures c.end_of.ensures
+    elements_at vs c.table-table.result.now (table_at w.arena t) c.one-2.result c.end_of.result c.count_between-count.result
+    (c.as_slice.ensures.value ∙ c.in-Ok-items.ensures) c.table-table.ensures c.one-2.ensures c.end_of.ensures
     (c.count_between-count.ensures.count ∙ ap (λ k. count_between k c.end_of.result) (c.one.ensures ∙ sym c.one-2.ensures)) in
-    let thawed : (table_at w.arena t).is_frozen ≡ false = ap (λ (t : TableView). t.is_frozen) (sym c.table-table.ensures) ∙ sym c.is_frozen.ensures ∙ c.if-is_frozen.false in
+    let thawed : (table_at w.arena t).is_frozen ≡ false = ap (λ (t : TableView). t.is_frozen) (sym c.table-table.ensures) ∙ sym c.is_frozen.ensures
+    ∙ c.if-is_frozen.false in
     let ws = c.in-Ok-sorted.sorted.items in
     let used = sorted_used w vs ws c.in-Ok-sorted.ensures.moves (elements_used w c.requires.world t may vs is) in
     let now : c.put_all.new.table ≡ put_all (table_at w.arena t) (pos 1) ws =
@@ -112,10 +123,13 @@ returns-clause-keeps c =
     let may = used_at w _ 0 _ c.requires.args c.in-Ok.ensures.there in
     let vs = c.as_slice.result.now in
     let is : vs ≡ items (table_at w.arena t) (pos 1) (rule.border (table_at w.arena t)) =
-    elements_at vs c.table-table.result.now (table_at w.arena t) c.one-2.result c.end_of.result c.count_between-count.result (c.as_slice.ensures.value ∙ c.in-Ok-items.ensures) c.table-table.ensures c.one-2.ensures c.end_of.ensures
+    elements_at vs c.table-table.result.now (table_at w.arena t) c.one-2.result c.end_of.result c.count_between-count.result
+    (c.as_slice.ensures.value ∙ c.in-Ok-items.ensures) c.table-table.ensures c.one-2.ensures c.end_of.ensures
     (c.count_between-count.ensures.count ∙ ap (λ k. count_between k c.end_of.result) (c.one.ensures ∙ sym c.one-2.ensures)) in
-    let thawed : (table_at w.arena t).is_frozen ≡ false = ap (λ (t : TableView). t.is_frozen) (sym c.table-table.ensures) ∙ sym c.is_frozen.ensures ∙ c.if-is_frozen.false in
+    let thawed : (table_at w.arena t).is_frozen ≡ false = ap (λ (t : TableView). t.is_frozen) (sym c.table-table.ensures) ∙ sym c.is_frozen.ensures
+    ∙ c.if-is_frozen.false in
     let ws = c.in-Ok-sorted.sorted.items in
     let used = sorted_used w vs ws c.in-Ok-sorted.ensures.moves (elements_used w c.requires.world t may vs is) in
-    began_keeps w c.requires.world t may c.put_all.new.table c.one-3.result c.as_slice-2.result.now thawed (subst (AllByRecursion (MayUseIn w)) (sym c.as_slice-2.ensures.value) used)
+    began_keeps w c.requires.world t may c.put_all.new.table c.one-3.result c.as_slice-2.result.now thawed
+    (subst (AllByRecursion (MayUseIn w)) (sym c.as_slice-2.ensures.value) used)
     (subst (λ t. Began t c.put_all.new.table c.one-3.result c.as_slice-2.result.now) c.table_mut.ensures.value c.in-Err-put_all.ensures.err)

@@ -10,6 +10,7 @@ returns-in_default-first c =
     let at : slice_get c.args.values.now 0 ≡ Some c.in-Some.first.now = search rules in
     record {
       sorts = λ s t.
-          first_fails c.args.names.now c.args.values.now c.in-Some.first.now c.unlike.result at c.in_default-first.not-Num c.in_default-first.not-Str (c.unlike.ensures c.args.names.now) s t;
+          first_fails c.args.names.now c.args.values.now c.in-Some.first.now c.unlike.result at c.in_default-first.not-Num c.in_default-first.not-Str
+          (c.unlike.ensures c.args.names.now) s t;
       moves = tt;
     }

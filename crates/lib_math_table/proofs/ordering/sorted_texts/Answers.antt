@@ -10,8 +10,10 @@ pub returns-in-Ok-text_values-clause-sorts : goal.returns-in-Ok-text_values-clau
 returns-in-Ok-text_values-clause-sorts c =
     let ys = c.sort_unstable.new.self.items in
     let up = rises (λ x y. is_lt (ordering_then (slice_cmp nat_cmp x.0.now y.0.now) (nat_cmp x.1.0 y.1.0))) ys c.sort_unstable.ensures.sorted in
-    texts_sorted c.args.names.now (λ text. text.0.now) (λ text. text.1) c.args.values.now c.in-Ok-text_values.sorted.items c.in-Ok.texts.items ys c.in-Ok.ensures.values c.in-Ok.ensures.bytes c.sort_unstable.ensures.permutation
-    (rises_map (λ x y. is_lt (ordering_then (slice_cmp nat_cmp x.0.now y.0.now) (nat_cmp x.1.0 y.1.0))) (λ a b. is_lt (slice_cmp nat_cmp a b)) (λ text. text.0.now)
+    texts_sorted c.args.names.now (λ text. text.0.now)
+    (λ text. text.1) c.args.values.now c.in-Ok-text_values.sorted.items c.in-Ok.texts.items ys c.in-Ok.ensures.values c.in-Ok.ensures.bytes c.sort_unstable.ensures.permutation
+    (rises_map (λ x y. is_lt (ordering_then (slice_cmp nat_cmp x.0.now y.0.now) (nat_cmp x.1.0 y.1.0))) (λ a b. is_lt (slice_cmp nat_cmp a b))
+    (λ text. text.0.now)
     (λ x y. front_less (slice_cmp nat_cmp x.0.now y.0.now) (nat_cmp x.1.0 y.1.0)) ys up)
     (c.in-Ok-text_values.ensures ∙ ap (map (λ text. Str text.1)) c.as_slice.ensures.value)
 
