@@ -197,12 +197,7 @@ const MADE: [(Builtin, &[Given], Builtin, &str); 5] = [
         Builtin::TableConcat,
         "resulting string too large",
     ),
-    (
-        Builtin::TableClone,
-        &[Own],
-        Builtin::TableUnpack,
-        " 7 9",
-    ),
+    (Builtin::TableClone, &[Own], Builtin::TableUnpack, " 7 9"),
     (
         Builtin::TableClone,
         &[Own],
