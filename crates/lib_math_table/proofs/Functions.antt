@@ -5,7 +5,7 @@ use Rattle.value_model.specs.Values as m
 use Rattle.value_model.specs.Waits.{Elsewise}
 use Rattle.value_model.specs.declared.builtin.Builtin.{Builtin}
 use Rattle.value_model.specs.declared.builtin.Builtin.TheVariants as builtin
-use Rattle.lib_math_table.specs.Builtins.{IsMath, IsPlainTable}
+use Rattle.lib_math_table.specs.Builtins.{IsMath, IsTable}
 
 pub no_math : (f : Builtin) → IsMath f → (f ≡ builtin.MathAbs → ⊥) → (f ≡ builtin.MathCeil → ⊥) → (f ≡ builtin.MathFloor → ⊥) → (f ≡ builtin.MathRound → ⊥) → (f ≡ builtin.MathSign → ⊥) → (f ≡ builtin.MathMax → ⊥) → (f ≡ builtin.MathMin → ⊥) → (f ≡ builtin.MathClamp → ⊥) → ⊥
 no_math builtin.MathAbs h n0 n1 n2 n3 n4 n5 n6 n7 = n0 refl
@@ -18,21 +18,24 @@ no_math builtin.MathMin h n0 n1 n2 n3 n4 n5 n6 n7 = n6 refl
 no_math builtin.MathClamp h n0 n1 n2 n3 n4 n5 n6 n7 = n7 refl
 no_math _ h n0 n1 n2 n3 n4 n5 n6 n7 = h
 
-pub no_plain : (f : Builtin) → IsPlainTable f → (f ≡ builtin.TableInsert → ⊥) → (f ≡ builtin.TableRemove → ⊥) → (f ≡ builtin.TableUnpack → ⊥) → (f ≡ builtin.TablePack → ⊥) → (f ≡ builtin.TableCreate → ⊥) → (f ≡ builtin.TableFind → ⊥) → (f ≡ builtin.TableClear → ⊥) → (f ≡ builtin.TableFreeze → ⊥) → (f ≡ builtin.TableIsfrozen → ⊥) → (f ≡ builtin.TableMove → ⊥) → ⊥
-no_plain builtin.TableInsert h n0 n1 n2 n3 n4 n5 n6 n7 n8 n9 = n0 refl
-no_plain builtin.TableRemove h n0 n1 n2 n3 n4 n5 n6 n7 n8 n9 = n1 refl
-no_plain builtin.TableUnpack h n0 n1 n2 n3 n4 n5 n6 n7 n8 n9 = n2 refl
-no_plain builtin.TablePack h n0 n1 n2 n3 n4 n5 n6 n7 n8 n9 = n3 refl
-no_plain builtin.TableCreate h n0 n1 n2 n3 n4 n5 n6 n7 n8 n9 = n4 refl
-no_plain builtin.TableFind h n0 n1 n2 n3 n4 n5 n6 n7 n8 n9 = n5 refl
-no_plain builtin.TableClear h n0 n1 n2 n3 n4 n5 n6 n7 n8 n9 = n6 refl
-no_plain builtin.TableFreeze h n0 n1 n2 n3 n4 n5 n6 n7 n8 n9 = n7 refl
-no_plain builtin.TableIsfrozen h n0 n1 n2 n3 n4 n5 n6 n7 n8 n9 = n8 refl
-no_plain builtin.TableMove h n0 n1 n2 n3 n4 n5 n6 n7 n8 n9 = n9 refl
-no_plain _ h n0 n1 n2 n3 n4 n5 n6 n7 n8 n9 = h
+pub no_table : (f : Builtin) → IsTable f → (f ≡ builtin.TableInsert → ⊥) → (f ≡ builtin.TableRemove → ⊥) → (f ≡ builtin.TableConcat → ⊥) → (f ≡ builtin.TableUnpack → ⊥) → (f ≡ builtin.TablePack → ⊥) → (f ≡ builtin.TableCreate → ⊥) → (f ≡ builtin.TableFind → ⊥) → (f ≡ builtin.TableClear → ⊥) → (f ≡ builtin.TableClone → ⊥) → (f ≡ builtin.TableFreeze → ⊥) → (f ≡ builtin.TableIsfrozen → ⊥) → (f ≡ builtin.TableMove → ⊥) → (f ≡ builtin.TableSort → ⊥) → ⊥
+no_table builtin.TableInsert h n0 n1 n2 n3 n4 n5 n6 n7 n8 n9 n10 n11 n12 = n0 refl
+no_table builtin.TableRemove h n0 n1 n2 n3 n4 n5 n6 n7 n8 n9 n10 n11 n12 = n1 refl
+no_table builtin.TableConcat h n0 n1 n2 n3 n4 n5 n6 n7 n8 n9 n10 n11 n12 = n2 refl
+no_table builtin.TableUnpack h n0 n1 n2 n3 n4 n5 n6 n7 n8 n9 n10 n11 n12 = n3 refl
+no_table builtin.TablePack h n0 n1 n2 n3 n4 n5 n6 n7 n8 n9 n10 n11 n12 = n4 refl
+no_table builtin.TableCreate h n0 n1 n2 n3 n4 n5 n6 n7 n8 n9 n10 n11 n12 = n5 refl
+no_table builtin.TableFind h n0 n1 n2 n3 n4 n5 n6 n7 n8 n9 n10 n11 n12 = n6 refl
+no_table builtin.TableClear h n0 n1 n2 n3 n4 n5 n6 n7 n8 n9 n10 n11 n12 = n7 refl
+no_table builtin.TableClone h n0 n1 n2 n3 n4 n5 n6 n7 n8 n9 n10 n11 n12 = n8 refl
+no_table builtin.TableFreeze h n0 n1 n2 n3 n4 n5 n6 n7 n8 n9 n10 n11 n12 = n9 refl
+no_table builtin.TableIsfrozen h n0 n1 n2 n3 n4 n5 n6 n7 n8 n9 n10 n11 n12 = n10 refl
+no_table builtin.TableMove h n0 n1 n2 n3 n4 n5 n6 n7 n8 n9 n10 n11 n12 = n11 refl
+no_table builtin.TableSort h n0 n1 n2 n3 n4 n5 n6 n7 n8 n9 n10 n11 n12 = n12 refl
+no_table _ h n0 n1 n2 n3 n4 n5 n6 n7 n8 n9 n10 n11 n12 = h
 
 -- none of them says how a value was raised
-pub raised_elsewise : (args : List m.Value) (f : Builtin) → IsMath f ⊎ IsPlainTable f → Elsewise ≡ raised_by f args
+pub raised_elsewise : (args : List m.Value) (f : Builtin) → IsMath f ⊎ IsTable f → Elsewise ≡ raised_by f args
 raised_elsewise args builtin.Error (inl is) = absurd is
 raised_elsewise args builtin.Error (inr is) = absurd is
 raised_elsewise args _ is = refl

@@ -1,8 +1,7 @@
 -- Rows that put a value into a table.
-use Rattle.std.proofs.Common.{◌≡◌, ℕ, ◌^◌, ◌+◌, ◌≤◌, ℤ, pos, neg_ℤ, ◌+ℤ◌, Bool, true, false, ◌&&◌, List, [], length, map, take, Result, Ok, Err, Some, None, slice_get, refl, sym, ◌∙◌, ap, subst, arith}
-use Rattle.std.proofs.lemmas.Int.{ints}
+use Rattle.std.proofs.Common.{◌≡◌, ℕ, ℤ, pos, ◌+ℤ◌, Bool, true, false, ◌&&◌, List, [], take, Result, Ok, Err, Some, None, slice_get, refl, sym, ◌∙◌, ap, subst}
 use Rattle.std.specs.List.{AllByRecursion}
-use Rattle.std.specs.Prelude.{int_le, ◌≤ℤ◌, if◌then◌else◌}
+use Rattle.std.specs.Prelude.{int_le, if◌then◌else◌}
 use Rattle.whole_num.specs.Whole.{is_whole, within}
 use Rattle.whole_num.specs.declared.arithmetic.Stop.{Stop}
 use Rattle.whole_num.specs.declared.arithmetic.Stop.TheVariants.{OutOfRange}

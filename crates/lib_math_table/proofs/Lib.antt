@@ -1,4 +1,6 @@
 pub mod Changes
+pub mod Copied
+pub mod ElementTexts
 pub mod Finding
 pub mod Functions
 pub mod Giving
@@ -6,4 +8,7 @@ pub mod Inserting
 pub mod Lists
 pub mod Made
 pub mod Moved
+pub mod Ordered
+pub mod Protected
 pub mod Removing
+pub mod Sorting

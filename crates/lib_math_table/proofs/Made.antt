@@ -1,5 +1,5 @@
 -- Rows that make a table.
-use Rattle.std.proofs.Common.{◌≡◌, ℕ, zero, suc, ◌<◌, ◌≤◌, ℤ, pos, Bool, true, false, List, [], ◌∷◌, map, length, take, slice_get, Some, Result, Ok, Err, refl, sym, ◌∙◌, ap, subst}
+use Rattle.std.proofs.Common.{◌≡◌, ℕ, zero, suc, ◌<◌, ◌≤◌, ℤ, pos, true, false, List, [], ◌∷◌, map, length, take, slice_get, Some, Result, Ok, Err, refl, sym, ◌∙◌, ap, subst}
 use Rattle.std.proofs.Math.ListN.{replicate}
 use Rattle.std.proofs.lemmas.List.{length-map}
 use Rattle.std.proofs.lemmas.Option.{get_or_from_slice_get, slice_get_within}
@@ -38,7 +38,7 @@ use Rattle.lib_arguments.proofs.RowsRun.{gives_runs, each_map}
 use Rattle.table_lists.specs.Lists.{put_all, Began}
 use Rattle.table_lists.proofs.Kept as kept
 use Rattle.lib_math_table.proofs.Lists.{few, many}
-use Rattle.lib_math_table.proofs.Changes.{with_arena, with_changed, changed_keeps}
+use Rattle.lib_math_table.proofs.Changes.{with_arena, changed_keeps}
 
 map_replicate : (texts : List Bytes) (n : ℕ) (v : Value) → map (meant texts) (replicate n v) ≡ replicate n (meant texts v)
 map_replicate texts zero v = refl

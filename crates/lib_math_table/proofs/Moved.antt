@@ -1,12 +1,11 @@
 -- Rows that move elements.
-use Rattle.std.proofs.Common.{◌≡◌, ℕ, zero, suc, ◌^◌, ◌+◌, ◌-◌, ◌<◌, ◌≤◌, ℤ, pos, negsuc, neg_ℤ, ◌+ℤ◌, Bool, true, false, ◌&&◌, List, [], ◌∷◌, map, Result, Ok, Err, ◌⊎◌, inl, inr, refl, sym, ◌∙◌, ap, subst, arith}
+use Rattle.std.proofs.Common.{◌≡◌, ℕ, zero, suc, ◌^◌, ◌+◌, ◌-◌, ◌<◌, ◌≤◌, ℤ, pos, negsuc, ◌+ℤ◌, true, false, ◌&&◌, List, [], ◌∷◌, map, Result, Ok, Err, ◌⊎◌, inl, inr, refl, sym, ◌∙◌, ap, subst, arith}
 use Rattle.std.proofs.lemmas.Int.{ints}
 use Rattle.std.specs.List.{AllByRecursion}
 use Rattle.std.specs.Prelude.{◌≤ℤ◌, nat_le, IfOk, if◌then◌else◌}
 use Rattle.whole_num.specs.Whole.{IsWhole, is_whole}
 use Rattle.whole_num.specs.declared.arithmetic.Stop.TheVariants.{OutOfRange}
 use Rattle.value_model.specs.Answers as model
-use Rattle.value_model.specs.CoreRows as core
 use Rattle.value_model.specs.Parts.{meant, meant_error, table_ref}
 use Rattle.value_model.specs.Store as store
 use Rattle.value_model.specs.TableRows as rows

@@ -14,16 +14,19 @@ IsMath builtin.MathMin = Unit {0}
 IsMath builtin.MathClamp = Unit {0}
 IsMath f = ⊥
 
--- those of `table` that are built: all but `concat`, `clone` and `sort`
-abbrev pub IsPlainTable : Builtin → Type 0
-IsPlainTable builtin.TableInsert = Unit {0}
-IsPlainTable builtin.TableRemove = Unit {0}
-IsPlainTable builtin.TableUnpack = Unit {0}
-IsPlainTable builtin.TablePack = Unit {0}
-IsPlainTable builtin.TableCreate = Unit {0}
-IsPlainTable builtin.TableFind = Unit {0}
-IsPlainTable builtin.TableClear = Unit {0}
-IsPlainTable builtin.TableFreeze = Unit {0}
-IsPlainTable builtin.TableIsfrozen = Unit {0}
-IsPlainTable builtin.TableMove = Unit {0}
-IsPlainTable f = ⊥
+-- the functions of `table`
+abbrev pub IsTable : Builtin → Type 0
+IsTable builtin.TableInsert = Unit {0}
+IsTable builtin.TableRemove = Unit {0}
+IsTable builtin.TableConcat = Unit {0}
+IsTable builtin.TableUnpack = Unit {0}
+IsTable builtin.TablePack = Unit {0}
+IsTable builtin.TableCreate = Unit {0}
+IsTable builtin.TableFind = Unit {0}
+IsTable builtin.TableClear = Unit {0}
+IsTable builtin.TableClone = Unit {0}
+IsTable builtin.TableFreeze = Unit {0}
+IsTable builtin.TableIsfrozen = Unit {0}
+IsTable builtin.TableMove = Unit {0}
+IsTable builtin.TableSort = Unit {0}
+IsTable f = ⊥

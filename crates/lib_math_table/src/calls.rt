@@ -7,12 +7,15 @@ ghost use Rattle.value_model.specs.Parts.{meant};
 ghost use Rattle.luau_tables.specs.Answers.{Answered, raised_by};
 ghost use Rattle.luau_tables.specs.Worlds.{IsWorld, Keeps, MayUseIn, store_in};
 ghost use Rattle.lib_arguments.specs.Rows.{Runs};
-ghost use Rattle.lib_math_table.specs.Builtins.{IsMath, IsPlainTable};
+ghost use Rattle.lib_math_table.specs.Builtins.{IsMath, IsTable};
 
+use crate::cloning::clone_table;
 use crate::edits::{insert, remove};
+use crate::joining::concat;
 use crate::making::{create, pack};
 use crate::math::{absolute, best, clamp, sign, whole};
 use crate::moving::move_items;
+use crate::ordering::sort;
 use crate::search::find;
 use crate::tables::{clear, freeze, isfrozen};
 use crate::unpacking::unpack;
@@ -21,7 +24,7 @@ use luau_tables::{LibAnswer, LibWorld};
 use resource::OutOfMemory;
 use value_model::{Builtin, Value};
 
-/// Calls a function of `math`, or of `table` but `concat`, `clone` and `sort`, which are not built yet.
+/// Calls a function of `math` or of `table`.
 ///
 /// The values that it gives are appended to `results`. After a run error or a stop none are, and all in the world stays. Where
 /// memory is wanted, an edit may be half done.
@@ -31,7 +34,7 @@ pub fn call(
     world: &mut LibWorld,
     results: &mut Vec<Value>,
 ) -> Result<LibAnswer, OutOfMemory>
-    requires builtin { IsMath builtin ⊎ IsPlainTable builtin }
+    requires builtin { IsMath builtin ⊎ IsTable builtin }
     requires world { IsWorld world.old }
     requires args { AllByRecursion (MayUseIn world.old) args.now }
     ensures answered { IfOk result (λ a. Answered world.old world.new results.old.items results.new.items a (raised_by builtin (map (meant world.old.names) args.now)) (lib builtin (map (meant world.old.names) args.now) (store_in world.old))) }
@@ -41,7 +44,7 @@ pub fn call(
     if is_math(builtin) {
         return answer(math(builtin, args, world, results));
     }
-    answer(plain_table(builtin, args, world, results))
+    answer(table(builtin, args, world, results))
 }
 
 // Whether a function is one of `math`.
@@ -87,13 +90,13 @@ fn math(
 }
 
 // Calls a function of `table`.
-fn plain_table(
+fn table(
     builtin: Builtin,
     args: &[Value],
     world: &mut LibWorld,
     results: &mut Vec<Value>,
 ) -> Result<(), Ending>
-    requires builtin { IsPlainTable builtin }
+    requires builtin { IsTable builtin }
     requires world { IsWorld world.old }
     requires args { AllByRecursion (MayUseIn world.old) args.now }
     ensures runs { Runs world.old world.new results.old.items results.new.items result (lib builtin (map (meant world.old.names) args.now) (store_in world.old)) }
@@ -102,14 +105,17 @@ fn plain_table(
     match builtin {
         Builtin::TableInsert => insert(args, world),
         Builtin::TableRemove => remove(args, world, results),
+        Builtin::TableConcat => concat(args, world, results),
         Builtin::TableUnpack => unpack(args, world, results),
         Builtin::TablePack => pack(args, world, results),
         Builtin::TableCreate => create(args, world, results),
         Builtin::TableFind => find(args, world, results),
         Builtin::TableClear => clear(args, world),
+        Builtin::TableClone => clone_table(args, world, results),
         Builtin::TableFreeze => freeze(args, world, results),
         Builtin::TableIsfrozen => isfrozen(args, world, results),
         Builtin::TableMove => move_items(args, world, results),
+        Builtin::TableSort => sort(*results.allocator(), args, world),
         _ => unreachable!(),
     }
 }

@@ -1,11 +1,14 @@
-//! The functions of `math`, and of `table` but `concat`, `clone` and `sort`.
+//! The functions of `math` and of `table`.
 #![tactic(auto)]
 
 mod calls;
+mod cloning;
 mod edits;
+mod joining;
 mod making;
 mod math;
 mod moving;
+mod ordering;
 mod search;
 mod tables;
 mod unpacking;

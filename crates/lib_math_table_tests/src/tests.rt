@@ -1,6 +1,6 @@
 ghost use Rattle.std.specs.Prelude.{◌⊎◌, IsTrue, IfOk};
 ghost use Rattle.std.specs.List.{AllByRecursion};
-ghost use Rattle.lib_math_table.specs.Builtins.{IsMath, IsPlainTable};
+ghost use Rattle.lib_math_table.specs.Builtins.{IsMath, IsTable};
 ghost use Rattle.luau_tables.specs.Answers.{MayAnswer};
 ghost use Rattle.luau_tables.specs.Worlds.{IsWorld, Keeps, MayUseIn};
 ghost use Rattle.luau_tables.specs.declared.globals.LibWorld.{LibWorld};
@@ -9,7 +9,7 @@ ghost use Rattle.value_model.specs.declared.value.Value.TheVariants.{Table};
 use first_world::{add_table, first_world};
 use lib_arguments::text_value;
 use lib_math_table::call;
-use luau_tables::{LibAnswer, LibWorld, plain_into};
+use luau_tables::{LibAnswer, LibWorld, plain_into, set_meta, write};
 use std::process::Abort;
 use std::test::Fail;
 use value_model::{Builtin, TableId, Value};
@@ -56,7 +56,7 @@ const MATH: [(Builtin, &[Given], &str); 12] = [
 ];
 
 // Calls of `table` in turn, each with what it gives.
-const TABLE: [(Builtin, &[Given], &str); 18] = [
+const TABLE: [(Builtin, &[Given], &str); 48] = [
     (Builtin::TableInsert, &[Own, Number(1)], ""),
     (Builtin::TableInsert, &[Own, Number(1), Text("a")], ""),
     (Builtin::TableUnpack, &[Own], " a 1"),
@@ -67,9 +67,55 @@ const TABLE: [(Builtin, &[Given], &str); 18] = [
         " table: environment",
     ),
     (Builtin::TableUnpack, &[Own], " a a 1"),
+    (Builtin::TableConcat, &[Own], " aa1"),
+    (Builtin::TableConcat, &[Own, Text(", "), Number(2)], " a, 1"),
+    (
+        Builtin::TableConcat,
+        &[Own, Number(0), Number(1), Number(2)],
+        " a0a",
+    ),
+    (
+        Builtin::TableConcat,
+        &[Own, Text("-"), Number(2), Number(4)],
+        "invalid value (nil) at index 4 in 'concat'",
+    ),
+    (
+        Builtin::TableSort,
+        &[Own],
+        "attempt to compare string < number",
+    ),
     (Builtin::TableRemove, &[Own], " 1"),
     (Builtin::TableClear, &[Own], ""),
     (Builtin::TableUnpack, &[Own, Number(1), Number(1)], " nil"),
+    (Builtin::TableInsert, &[Own, Number(10)], ""),
+    (Builtin::TableInsert, &[Own, Number(9)], ""),
+    (Builtin::TableInsert, &[Own, Number(-3)], ""),
+    (Builtin::TableInsert, &[Own, Number(9)], ""),
+    (Builtin::TableSort, &[Own], ""),
+    (Builtin::TableConcat, &[Own, Text(" ")], " -3 9 9 10"),
+    (Builtin::TableClear, &[Own], ""),
+    (Builtin::TableInsert, &[Own, Text("b")], ""),
+    (Builtin::TableInsert, &[Own, Text("ab")], ""),
+    (Builtin::TableInsert, &[Own, Text("")], ""),
+    (Builtin::TableInsert, &[Own, Text("a")], ""),
+    (Builtin::TableInsert, &[Own, Text("B")], ""),
+    (Builtin::TableSort, &[Own], ""),
+    (Builtin::TableConcat, &[Own, Text(",")], " ,B,a,ab,b"),
+    (Builtin::TableClear, &[Own], ""),
+    (Builtin::TableInsert, &[Own, True], ""),
+    (
+        Builtin::TableSort,
+        &[Own],
+        "attempt to compare boolean < boolean",
+    ),
+    (
+        Builtin::TableConcat,
+        &[Own],
+        "invalid value (boolean) at index 1 in 'concat'",
+    ),
+    (Builtin::TableClear, &[Own], ""),
+    (Builtin::TableSort, &[Own], ""),
+    (Builtin::TableConcat, &[Own], " "),
     (Builtin::TableIsfrozen, &[Own], " false"),
     (
         Builtin::TableMove,
@@ -81,6 +127,26 @@ const TABLE: [(Builtin, &[Given], &str); 18] = [
     (
         Builtin::TableInsert,
         &[Own, True],
+        "attempt to modify a readonly table",
+    ),
+    (
+        Builtin::TableRemove,
+        &[Own],
+        "attempt to modify a readonly table",
+    ),
+    (
+        Builtin::TableClear,
+        &[Own],
+        "attempt to modify a readonly table",
+    ),
+    (
+        Builtin::TableSort,
+        &[Own],
+        "attempt to modify a readonly table",
+    ),
+    (
+        Builtin::TableMove,
+        &[Own, Number(1), Number(0), Number(1)],
         "attempt to modify a readonly table",
     ),
     (
@@ -105,11 +171,56 @@ const TABLE: [(Builtin, &[Given], &str); 18] = [
     ),
 ];
 
-// Calls that give a new table, each with its elements.
-const MADE: [(Builtin, &[Given], &str); 2] = [
-    (Builtin::TablePack, &[Number(7), True], " 7 true"),
-    (Builtin::TableCreate, &[Number(3), True], " true true true"),
+// So many texts of 64 bytes are too long for one string.
+const TEXTS: i64 = 262_145;
+
+// Calls that give a new table, each with what a second call gives of that.
+const MADE: [(Builtin, &[Given], Builtin, &str); 5] = [
+    (
+        Builtin::TablePack,
+        &[Number(7), True],
+        Builtin::TableUnpack,
+        " 7 true",
+    ),
+    (
+        Builtin::TableCreate,
+        &[Number(3), True],
+        Builtin::TableUnpack,
+        " true true true",
+    ),
+    (
+        Builtin::TableCreate,
+        &[
+            Number(TEXTS),
+            Text("0123456789abcdef0123456789abcdef0123456789abcdef0123456789abcdef"),
+        ],
+        Builtin::TableConcat,
+        "resulting string too large",
+    ),
+    (Builtin::TableClone, &[Own], Builtin::TableUnpack, " 7 9"),
+    (
+        Builtin::TableClone,
+        &[Own],
+        Builtin::TableIsfrozen,
+        " false",
+    ),
 ];
+
+// Calls that leave a table with two elements, and with nil under a key. It cannot be written after that.
+const HOLED: [(Builtin, &[Given], &str); 5] = [
+    (Builtin::TableInsert, &[Own, Number(7)], ""),
+    (Builtin::TableInsert, &[Own, Number(8)], ""),
+    (Builtin::TableInsert, &[Own, Number(9)], ""),
+    (Builtin::TableRemove, &[Own, Number(2)], " 8"),
+    (Builtin::TableFreeze, &[Own], " table: environment"),
+];
+
+// A call of a table whose metatable is protected.
+const PROTECTED: (Builtin, &[Given], &str) = (
+    Builtin::TableClone,
+    &[Own],
+    "cannot change a protected metatable",
+);
 
 // The value of an argument.
 fn value_of(given: &Given, world: &mut LibWorld, own: TableId) -> Result<Value, Fail>
@@ -199,7 +310,7 @@ fn called(
     world: &mut LibWorld,
     out: &mut Vec<u8>,
 ) -> Result<Vec<Value>, Fail>
-    requires builtin { IsMath builtin ⊎ IsPlainTable builtin }
+    requires builtin { IsMath builtin ⊎ IsTable builtin }
     requires world { IsWorld world.old }
     requires args { AllByRecursion (MayUseIn world.old) args.now }
     ensures usable { IfOk result (λ vs. AllByRecursion (MayUseIn world.new) vs.items) }
@@ -228,22 +339,25 @@ fn is_math(builtin: Builtin) -> bool
     )
 }
 
-// Whether a function is one of `table` that can be called.
+// Whether a function is one of `table`.
 fn is_table(builtin: Builtin) -> bool
-    ensures { IsTrue result → IsPlainTable builtin }
+    ensures { IsTrue result → IsTable builtin }
 {
     matches!(
         builtin,
         Builtin::TableInsert
             | Builtin::TableRemove
+            | Builtin::TableConcat
             | Builtin::TableUnpack
             | Builtin::TablePack
             | Builtin::TableCreate
             | Builtin::TableFind
             | Builtin::TableClear
+            | Builtin::TableClone
             | Builtin::TableFreeze
             | Builtin::TableIsfrozen
             | Builtin::TableMove
+            | Builtin::TableSort
     )
 }
 
@@ -255,7 +369,7 @@ fn row_into(
     own: TableId,
     out: &mut Vec<u8>,
 ) -> Result<(), Fail>
-    requires builtin { IsMath row.now.0 ⊎ IsPlainTable row.now.0 }
+    requires builtin { IsMath row.now.0 ⊎ IsTable row.now.0 }
     requires world { IsWorld world.old }
     requires own { MayUseIn world.old (Table own) }
     ensures { Keeps world.old world.new }
@@ -265,15 +379,16 @@ fn row_into(
     Ok(())
 }
 
-// Appends the elements of the table that a row's call gives.
+// Appends what a row's second call gives of the table that its first one gives.
 fn made_into(
     rt: &impl AllocGlobal,
-    row: &(Builtin, &[Given], &str),
+    row: &(Builtin, &[Given], Builtin, &str),
     world: &mut LibWorld,
     own: TableId,
     out: &mut Vec<u8>,
 ) -> Result<(), Fail>
-    requires builtin { IsPlainTable row.now.0 }
+    requires first { IsTable row.now.0 }
+    requires second { IsTable row.now.2 }
     requires world { IsWorld world.old }
     requires own { MayUseIn world.old (Table own) }
     ensures { Keeps world.old world.new }
@@ -281,7 +396,7 @@ fn made_into(
     let mut unshown = Vec::new(rt.alloc());
     let args = values_of(rt, row.1, world, own)?;
     let made = called(rt, row.0, args.as_slice(), world, &mut unshown)?;
-    called(rt, Builtin::TableUnpack, made.as_slice(), world, out)?;
+    called(rt, row.2, made.as_slice(), world, out)?;
     Ok(())
 }
 
@@ -315,11 +430,47 @@ fn table(rt: HostRuntime) -> Result<(), Fail> {
 fn made(rt: HostRuntime) -> Result<(), Fail> {
     let mut world = first_world(rt.alloc())?;
     let own = add_table(&mut world)?;
-    for row in &MADE {
+    for row in &HOLED {
         let mut text = Vec::new(rt.alloc());
         assert!(rt; is_table(row.0));
-        made_into(&rt, row, &mut world, own, &mut text)?;
+        row_into(&rt, row, &mut world, own, &mut text)?;
         assert_eq!(rt; text.as_slice(), row.2.as_bytes());
     }
+    for two in &MADE {
+        let mut text = Vec::new(rt.alloc());
+        assert!(rt; is_table(two.0));
+        assert!(rt; is_table(two.2));
+        made_into(&rt, two, &mut world, own, &mut text)?;
+        assert_eq!(rt; text.as_slice(), two.3.as_bytes());
+    }
+    Ok(())
+}
+
+// Gives a table a metatable with `__metatable`.
+fn protect(world: &mut LibWorld, t: TableId) -> Result<(), Fail>
+    requires world { IsWorld world.old }
+    requires table { MayUseIn world.old (Table t) }
+    ensures { Keeps world.old world.new }
+{
+    let meta = add_table(world)?;
+    let key = Value::Str(world.globals.meta.metatable);
+    match write(&mut world.arena, meta, key, Value::Bool(true)) {
+        Ok(()) => {}
+        Err(_) => return Err(Fail::from("not written")),
+    }
+    match set_meta(&mut world.arena, t, Some(meta)) {
+        Ok(()) => Ok(()),
+        Err(_) => Err(Fail::from("frozen")),
+    }
+}
+
+#[test]
+fn protected(rt: HostRuntime) -> Result<(), Fail> {
+    let mut world = first_world(rt.alloc())?;
+    let own = add_table(&mut world)?;
+    protect(&mut world, own)?;
+    let mut text = Vec::new(rt.alloc());
+    row_into(&rt, &PROTECTED, &mut world, own, &mut text)?;
+    assert_eq!(rt; text.as_slice(), PROTECTED.2.as_bytes());
     Ok(())
 }

@@ -1,15 +1,13 @@
 -- Whole tables: entry after entry.
-use Rattle.std.proofs.Common.{◌≡◌, ℕ, zero, suc, ◌+◌, ◌<◌, ◌≤◌, Bool, true, false, not, cond, [], ◌∷◌, ◌++◌, length, map, take, get_or, Some, slice_get, refl, sym, ◌∙◌, ap, subst, arith, add-one}
-use Rattle.std.proofs.lemmas.List.{take_more, take_all, append-nil}
+use Rattle.std.proofs.Common.{◌≡◌, ℕ, zero, suc, ◌+◌, ◌<◌, ◌≤◌, Bool, true, false, not, cond, [], ◌∷◌, ◌++◌, length, map, take, Some, slice_get, refl, sym, ◌∙◌, ap, arith, add-one}
+use Rattle.std.proofs.lemmas.List.{take_all, append-nil}
 use Rattle.std.proofs.lemmas.List.Elements.{filter_more}
 use Rattle.std.proofs.lemmas.Option.{get_or_from_slice_get}
-use Rattle.std.specs.List.{AllByRecursion}
 use Rattle.indexmap.specs.IndexMap.{set_value_at}
 use Rattle.value_model.specs.declared.value.Value.{Value}
 use Rattle.value_model.specs.declared.value.Value.TheVariants.{Nil}
-use Rattle.value_arena.specs.Tables.{Entries, TableView, is_nil}
-use Rattle.luau_tables.specs.Rules as rule
-use Rattle.table_lists.specs.Lists.{filled, put_pairs}
+use Rattle.value_arena.specs.Tables.{Entries, is_nil}
+use Rattle.table_lists.specs.Lists.{filled}
 
 -- ---- nil under the first keys
 
@@ -63,22 +61,3 @@ filled_more es i e b l at is =
 
 pub filled_all : (es : Entries) (n : ℕ) → length es ≤ n → filled (take n es) ≡ filled es
 filled_all es n h = ap filled (take_all n es h)
-
--- ---- entries written in order
-
-pub pairs_more : (t : TableView) (es : Entries) (e : Value × Value) → put_pairs t (es ++ e ∷ []) ≡ rule.put (put_pairs t es) e.0 e.1
-pairs_more t [] e = refl
-pairs_more t (d ∷ es) e = pairs_more (rule.put t d.0 d.1) es e
-
-pub pairs_step : (t u : TableView) (es : Entries) (i : ℕ) (e : Value × Value) → i < length es → e ≡ get_or es i e → t ≡ put_pairs u (take i es) → rule.put t e.0 e.1 ≡ put_pairs u (take (i + 1) es)
-pairs_step t u es i e l at h =
-    ap (λ t. rule.put t e.0 e.1) h
-    ∙ sym (pairs_more u (take i es) e)
-    ∙ ap (λ d. put_pairs u (take i es ++ d ∷ [])) at
-    ∙ ap (λ es. put_pairs u es) (sym (take_more es i e l))
-
--- no key of an entry is nil
-pub key_at : (P : Value × Value → Type 0) (es : Entries) (i : ℕ) (e : Value × Value) → AllByRecursion P es → i < length es → e ≡ get_or es i e → P e
-key_at P [] i e h l at = absurd (omega (arith, l))
-key_at P (d ∷ es) zero e h l at = subst P (sym at) h.0
-key_at P (d ∷ es) (suc i) e h l at = key_at P es i e h.1 (omega (arith, l)) at

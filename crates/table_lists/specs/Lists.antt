@@ -1,5 +1,7 @@
 -- Tables as lists: the elements under numbers, on values as a program keeps them.
-use Rattle.std.specs.Prelude.{◌≡◌, ℕ, zero, suc, ℤ, pos, ◌+ℤ◌, not, List, [], ◌∷◌, map, filter, take, cond, Option, Some, None}
+use Rattle.std.specs.List.{AllByRecursion, IsDistinct}
+use Rattle.std.specs.Map.{keys_of}
+use Rattle.std.specs.Prelude.{◌≡◌, ℕ, zero, suc, ℤ, pos, ◌+ℤ◌, false, not, List, [], ◌∷◌, map, filter, take, cond, Option, Some, None}
 use Rattle.value_model.specs.Pairs as pairs
 use Rattle.value_model.specs.declared.value.Value.{Value}
 use Rattle.value_model.specs.declared.value.Value.TheVariants.{Nil, Num}
@@ -43,14 +45,14 @@ cleared t = record t { entries = map (λ e. (e.0, Nil)) t.entries }
 abbrev pub filled : Entries → Entries
 filled es = filter (λ e. not (is_nil e.1)) es
 
--- entries written in order
-abbrev pub put_pairs : TableView → Entries → TableView
-put_pairs t [] = t
-put_pairs t (e ∷ es) = put_pairs (rule.put t e.0 e.1) es
+-- no key is nil or stands twice, and no value is nil
+abbrev pub AreFilled : Entries → Type 0
+AreFilled es = AllByRecursion (λ e. (is_nil e.0 ≡ false) × (is_nil e.1 ≡ false)) es × IsDistinct same (keys_of es)
 
-pub record BeganPairs (before after : TableView) (es : Entries) : Type 0 where
+-- the first ones of the entries are there
+pub record BeganEntries (before after : TableView) (es : Entries) : Type 0 where
   pub count : ℕ
-  pub is : after ≡ put_pairs before (take count es)
+  pub is : after ≡ record before { entries = take count es }
 
 -- ---- search
 

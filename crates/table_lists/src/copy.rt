@@ -1,11 +1,9 @@
 //! Whole tables.
 
-ghost use Rattle.std.specs.Prelude.{◌≡◌, OnOk, OnErr, IfOk, false, take, [], List};
-ghost use Rattle.std.specs.List.{AllByRecursion};
-ghost use Rattle.table_lists.specs.Lists.{cleared, filled, put_pairs, BeganPairs};
-ghost use Rattle.value_arena.specs.Tables.{is_nil};
+ghost use Rattle.std.specs.Prelude.{◌≡◌, OnOk, OnErr, IfOk, []};
+ghost use Rattle.table_lists.specs.Lists.{cleared, filled, AreFilled, BeganEntries};
 
-use crate::element::{is_nil, put};
+use crate::element::is_nil;
 use resource::OutOfMemory;
 use std::alloc::Global;
 use value_arena::Table;
@@ -22,7 +20,8 @@ pub fn clear(table: &mut Table)
 
 /// The entries whose values are not nil, in order.
 pub fn entries(alloc: Global, table: &Table) -> Result<Vec<(Value, Value)>, OutOfMemory>
-    ensures { IfOk result (λ es. es.items ≡ filled table.now.entries) }
+    ensures entries { IfOk result (λ es. es.items ≡ filled table.now.entries) }
+    ensures keys { IfOk result (λ es. AreFilled es.items) }
 {
     let mut kept = Vec::new(alloc);
     for place in 0..table.len() {
@@ -34,18 +33,19 @@ pub fn entries(alloc: Global, table: &Table) -> Result<Vec<(Value, Value)>, OutO
     Ok(kept)
 }
 
-/// Writes entries in order, and sets the metatable. No key is nil.
+/// Gives a table that has no entries these ones, and a metatable.
 pub fn put_entries(
     table: &mut Table,
     entries: &[(Value, Value)],
     meta: Option<TableId>,
 ) -> Result<(), OutOfMemory>
-    requires { AllByRecursion (λ e. is_nil e.0 ≡ false) entries.now }
-    ensures ok { OnOk result (table.new ≡ record (put_pairs table.old entries.now) { meta = meta }) }
-    ensures err { OnErr result (BeganPairs table.old table.new entries.now) }
+    requires empty { table.old.entries ≡ [] }
+    requires keys { AreFilled entries.now }
+    ensures ok { OnOk result (table.new ≡ record table.old { entries = entries.now; meta = meta }) }
+    ensures err { OnErr result (BeganEntries table.old table.new entries.now) }
 {
     for entry in entries {
-        put(table, entry.0, entry.1)?;
+        table.push(entry.0, entry.1)?;
     }
     table.put_meta(meta);
     Ok(())

@@ -2,11 +2,11 @@ pub mod Borders
 pub mod Growing
 pub mod InOrder
 pub mod Keeping
+pub mod Keys
 pub mod Laws
 pub mod Owning
 pub mod Padding
 pub mod Places
 pub mod Reaching
 pub mod Sameness
-pub mod WholeKeys
 pub mod Written

@@ -38,13 +38,14 @@ no_table = record { entries = []; meta = None; is_frozen = false; is_marked = fa
 abbrev pub most_entries : ℕ
 most_entries = 2 ^ 53
 
--- a key that is a number is a whole number of the language
-abbrev pub IsWholeKey : Value → Type 0
-IsWholeKey (Num z) = IsWhole z
-IsWholeKey key = Unit {0}
+-- a key is never nil, and one that is a number is a whole number of the language
+abbrev pub IsKey : Value → Type 0
+IsKey Nil = ⊥
+IsKey (Num z) = IsWhole z
+IsKey key = Unit {0}
 
-abbrev pub AreWholeKeys : Entries → Type 0
-AreWholeKeys es = AllByRecursion (λ e. IsWholeKey e.0) es
+abbrev pub HasKeys : Entries → Type 0
+HasKeys es = AllByRecursion (λ e. IsKey e.0) es
 
 -- the place of a key
 abbrev pub place_of : Value → Entries → Option ℕ

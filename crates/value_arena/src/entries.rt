@@ -1,6 +1,6 @@
 //! Entries of tables, in the order in which their keys came.
 
-ghost use Rattle.std.specs.Prelude.{◌≡◌, ◌<◌, ◌≤◌, ℕ, suc, pos, length, slice_get, IfSome, MatchOption, Some};
+ghost use Rattle.std.specs.Prelude.{◌≡◌, ◌<◌, ◌≤◌, ℕ, suc, pos, length, slice_get, false, IfSome, MatchOption, Some};
 ghost use Rattle.std.specs.List.{IsDistinct};
 ghost use Rattle.std.specs.Map.{keys_of};
 ghost use Rattle.value_arena.specs.Borders.{IsBorderBut, IsFilled, item_behind};
@@ -18,10 +18,11 @@ pub(crate) fn is_nil(value: &Value) -> bool
     matches!(value, Value::Nil)
 }
 
-/// A key that is a number is in range, as all numbers are.
+/// What is not nil is a key: where it is a number it is in range, as all numbers are.
 #[inline(always)]
 pub(crate) fn key_in_range(key: &Value)
-    ensures { spec.IsWholeKey key.now }
+    requires { spec.is_nil key.now ≡ false }
+    ensures { spec.IsKey key.now }
 {
     if let Value::Num(number) = key {
         number.get();

@@ -31,13 +31,13 @@ pub struct Table {
 
 impl Model for Table {
     ghost use Rattle.std.specs.Prelude.{◌≡◌, ◌≤◌, length};
-    ghost use Rattle.value_arena.specs.Tables.{AreWholeKeys, TableView, border_of, most_entries};
+    ghost use Rattle.value_arena.specs.Tables.{HasKeys, TableView, border_of, most_entries};
 
     ghost Value = { TableView };
 
     ghost view = { λ t. record { entries = t.entries.entries; meta = t.meta; is_frozen = t.is_frozen; is_marked = t.is_marked } };
 
-    ghost invariant = { λ t. (t.border ≡ border_of t.entries.entries) × (length t.entries.entries ≤ most_entries) × AreWholeKeys t.entries.entries };
+    ghost invariant = { λ t. (t.border ≡ border_of t.entries.entries) × (length t.entries.entries ≤ most_entries) × HasKeys t.entries.entries };
 }
 
 impl Table {
@@ -58,6 +58,7 @@ impl Table {
         ensures len { result ≡ length self.now.entries }
         ensures few { result ≤ spec.most_entries }
         ensures distinct { IsDistinct spec.same (keys_of self.now.entries) }
+        ensures keys { spec.HasKeys self.now.entries }
     {
         self.entries.len()
     }
@@ -92,7 +93,7 @@ impl Table {
     /// The value under a whole number, which is nil where the number is out of range.
     pub fn item(&self, number: i64) -> Value
         ensures value { result ≡ spec.value_in self.now.entries (Num number) }
-        ensures beyond { (spec.IsWholeKey (Num number) → ⊥) → result ≡ Nil }
+        ensures beyond { (spec.IsKey (Num number) → ⊥) → result ≡ Nil }
     {
         let entries = &self.entries;
         match Whole::new(number) {

@@ -23,10 +23,10 @@ returns-then-is_math-clause-answered c =
 pub returns-clause-answered : goal.returns-clause-answered
 returns-clause-answered c =
     let a = c.args.world.now in
-    let d = c.plain_table.new.world in
+    let d = c.table.new.world in
     let vs = map (meant a.names) c.args.args.now in
     let rs = c.args.results.now.items in
-    let rs' = c.plain_table.new.results.items in
+    let rs' = c.table.new.results.items in
     let row = lib c.args.builtin vs (store_in a) in
     subst (λ o. IfOk c.answer-2.result (λ (x : LibAnswer). Answered a d rs rs' x o row)) (raised_elsewise vs c.args.builtin c.requires.builtin)
-    (answered_by Elsewise a d rs rs' c.plain_table.result row c.answer-2.result c.answer-2.ensures c.plain_table.ensures.runs)
+    (answered_by Elsewise a d rs rs' c.table.result row c.answer-2.result c.answer-2.ensures c.table.ensures.runs)

@@ -5,7 +5,7 @@ use Rattle.std.proofs.lemmas.Option.{slice_get_past, slice_get-get_or}
 use Rattle.value_model.specs.Parts.{meant, table_ref}
 use Rattle.luau_tables.specs.Worlds.{store_in}
 use Rattle.lib_arguments.proofs.Looks.{meant_at, absent_at}
-use Rattle.lib_arguments.proofs.RowsRun.{found, found_fails, ends, used_at, have_texts}
+use Rattle.lib_arguments.proofs.RowsRun.{found, ends, used_at, have_texts}
 use Rattle.lib_math_table.proofs.Inserting.{without_place, with_place}
 use Rattle.lib_math_table.proofs.Lists.{same_fails, same_runs}
 use Rattle.lib_math_table.proofs.edits.insert.Goals as goal

@@ -1,4 +1,4 @@
-use Rattle.std.proofs.Common.{◌≡◌, ◌∙◌, Ok, Err, true, false, pos, ◌+ℤ◌, ◌&&◌, ap, sym, subst}
+use Rattle.std.proofs.Common.{◌≡◌, ◌∙◌, Err, false, pos, ◌+ℤ◌, ◌&&◌, ap, sym, subst}
 use Rattle.std.specs.Prelude.{int_le}
 use Rattle.value_arena.specs.Arenas.{table_at}
 use Rattle.value_arena.specs.Tables.{TableView}

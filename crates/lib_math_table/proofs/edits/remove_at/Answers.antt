@@ -1,5 +1,4 @@
-use Rattle.std.proofs.Common.{◌≡◌, ◌∙◌, false, pos, ◌+ℤ◌, ◌-ℤ◌, ◌&&◌, ap, sym, subst, refl, arith}
-use Rattle.std.proofs.lemmas.Int.{ints}
+use Rattle.std.proofs.Common.{◌≡◌, ◌∙◌, false, pos, ◌+ℤ◌, ◌&&◌, ap, sym, subst}
 use Rattle.std.specs.Prelude.{int_le}
 use Rattle.value_arena.specs.Arenas.{table_at}
 use Rattle.value_arena.specs.Tables.{TableView}

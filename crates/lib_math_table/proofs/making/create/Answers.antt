@@ -1,5 +1,4 @@
 use Rattle.std.proofs.Common.{sym, subst, arith}
-use Rattle.value_model.specs.TableRows as rows
 use Rattle.value_model.specs.StringRows as string
 use Rattle.value_model.specs.Parts.{meant}
 use Rattle.value_model.specs.declared.error.RunErr.TheVariants.{TooManyValues}

@@ -1,18 +1,13 @@
-use Rattle.std.proofs.Common.{◌≡◌, ◌∙◌, pos, true, false, sym, ap, subst}
+use Rattle.std.proofs.Common.{◌≡◌, ◌∙◌, pos, false, sym, ap, subst}
 use Rattle.std.proofs.Math.ListN.{replicate}
 use Rattle.value_model.specs.Parts.{meant}
-use Rattle.value_model.specs.StringRows as string
 use Rattle.value_model.specs.TableRows as rows
-use Rattle.value_model.specs.declared.ids.TableId.{TableId}
-use Rattle.value_model.specs.declared.value.Value.TheVariants.{Table}
-use Rattle.value_arena.specs.Arenas.{ArenaView, with_table}
-use Rattle.value_arena.specs.Tables.{TableView, no_table, is_nil}
-use Rattle.luau_tables.specs.Worlds.{Keeps, store_in}
-use Rattle.luau_tables.proofs.WorldsKept.{keeps_on, new_table_keeps}
-use Rattle.lib_arguments.specs.Rows.{Runs, Gives}
+use Rattle.value_arena.specs.Arenas.{ArenaView}
+use Rattle.value_arena.specs.Tables.{no_table, is_nil}
+use Rattle.luau_tables.specs.Worlds.{Keeps}
+use Rattle.luau_tables.proofs.WorldsKept.{new_table_keeps}
 use Rattle.table_lists.specs.Lists.{put_all, Began}
 use Rattle.lib_math_table.proofs.Changes.{with_arena}
-use Rattle.lib_math_table.proofs.Lists.{same_runs}
 use Rattle.lib_math_table.proofs.Made as made
 use Rattle.lib_math_table.proofs.making.filled.Goals as goal
 

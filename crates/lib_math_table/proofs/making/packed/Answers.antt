@@ -1,4 +1,4 @@
-use Rattle.std.proofs.Common.{◌≡◌, ◌∙◌, pos, sym, ap, subst, arith}
+use Rattle.std.proofs.Common.{◌≡◌, ◌∙◌, pos, ap, subst, arith}
 use Rattle.std.proofs.lemmas.Int.{ints}
 use Rattle.value_model.specs.declared.value.Value.TheVariants.{Str, Num}
 use Rattle.value_arena.specs.Tables.{TableView, no_table}

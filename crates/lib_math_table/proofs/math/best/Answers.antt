@@ -1,11 +1,11 @@
-use Rattle.std.proofs.Common.{◌≡◌, ◌+◌, ◌∙◌, drop, map, length, sym, ap, subst, refl, arith}
+use Rattle.std.proofs.Common.{◌+◌, ◌∙◌, drop, map, sym, ap, subst, refl, arith}
 use Rattle.std.proofs.lemmas.List.{length-map}
 use Rattle.value_model.specs.MathRows as math
 use Rattle.value_model.specs.Parts.{meant}
 use Rattle.luau_tables.specs.Worlds.{store_in}
 use Rattle.lib_arguments.specs.Checks.{Fails}
 use Rattle.lib_arguments.specs.Rows.{Runs}
-use Rattle.lib_arguments.proofs.RowsRun.{found, ends, used_at}
+use Rattle.lib_arguments.proofs.RowsRun.{ends}
 use Rattle.lib_math_table.specs.Best.{better}
 use Rattle.lib_math_table.proofs.Giving.{number_gives, best_end, best_next}
 use Rattle.lib_math_table.proofs.math.best.Goals as goal

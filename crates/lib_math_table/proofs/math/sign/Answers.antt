@@ -1,4 +1,3 @@
-use Rattle.std.proofs.Common.{refl}
 use Rattle.lib_arguments.proofs.RowsRun.{found, ends}
 use Rattle.lib_math_table.proofs.Giving.{number_gives}
 use Rattle.lib_math_table.proofs.math.sign.Goals as goal

@@ -1,11 +1,10 @@
-use Rattle.std.proofs.Common.{◌≡◌, ◌∙◌, ◌^◌, ◌+◌, ◌≤◌, false, pos, ◌+ℤ◌, length, ap, sym, subst, refl, arith}
+use Rattle.std.proofs.Common.{◌≡◌, ◌∙◌, ◌^◌, ◌+◌, false, pos, ◌+ℤ◌, length, ap, sym, subst, refl, arith}
 use Rattle.std.proofs.lemmas.Int.{ints}
 use Rattle.std.specs.Prelude.{◌≤ℤ◌}
 use Rattle.std.specs.List.{AllByRecursion}
 use Rattle.whole_num.specs.Whole.{IsWhole}
 use Rattle.value_arena.specs.Arenas.{table_at}
 use Rattle.value_arena.specs.Tables.{TableView}
-use Rattle.value_model.specs.TableRows as rows
 use Rattle.value_model.specs.StringRows.{count_between}
 use Rattle.value_model.specs.declared.error.RunErr.TheVariants.{ReadonlyTable, TooManyValues}
 use Rattle.whole_num.specs.declared.arithmetic.Stop.TheVariants.{OutOfRange}
@@ -13,7 +12,7 @@ use Rattle.luau_tables.specs.Worlds.{MayUseIn}
 use Rattle.luau_tables.proofs.WorldsKept.{keeps_self}
 use Rattle.lib_arguments.specs.declared.ending.Ending.TheVariants.{RunError, Stop}
 use Rattle.lib_arguments.proofs.RowsRun.{ends}
-use Rattle.table_lists.specs.Lists.{items, put_all, Began}
+use Rattle.table_lists.specs.Lists.{put_all, Began}
 use Rattle.table_lists.proofs.Rows.{length_items}
 use Rattle.lib_math_table.proofs.Inserting.{began_keeps, items_used}
 use Rattle.lib_math_table.proofs.Lists.{items_at}

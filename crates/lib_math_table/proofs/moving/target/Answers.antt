@@ -1,6 +1,5 @@
 use Rattle.std.proofs.Common.{◌∙◌, sym, ap}
 use Rattle.value_model.specs.Parts.{meant}
-use Rattle.value_model.specs.declared.value.Value.TheVariants.{Nil}
 use Rattle.lib_math_table.proofs.Moved.{target_none, target_given, there_on}
 use Rattle.lib_math_table.proofs.moving.target.Goals as goal
 

@@ -1,4 +1,4 @@
-use Rattle.std.proofs.Common.{◌≡◌, ◌∙◌, length, refl, sym, ap}
+use Rattle.std.proofs.Common.{◌∙◌, length, sym, ap}
 use Rattle.value_arena.specs.Arenas.{table_at}
 use Rattle.value_arena.specs.Tables.{TableView}
 use Rattle.lib_arguments.proofs.RowsRun.{found, found_fails, ends, used_at, have_texts}

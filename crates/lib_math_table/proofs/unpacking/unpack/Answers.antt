@@ -1,11 +1,10 @@
-use Rattle.std.proofs.Common.{◌≡◌, ◌∙◌, pos, ap, sym, refl, arith}
+use Rattle.std.proofs.Common.{◌≡◌, ◌∙◌, pos, ap, refl, arith}
 use Rattle.value_model.specs.declared.error.RunErr.TheVariants.{TooManyValues}
 use Rattle.value_arena.specs.Arenas.{table_at}
 use Rattle.value_arena.specs.Tables.{TableView}
 use Rattle.luau_tables.specs.Rules as rule
 use Rattle.lib_arguments.specs.declared.ending.Ending.TheVariants.{RunError}
 use Rattle.lib_arguments.proofs.RowsRun.{found, found_fails, ends, used_at, have_texts}
-use Rattle.table_lists.specs.Lists.{items}
 use Rattle.lib_math_table.proofs.Lists.{same_fails, same_runs, unpack_is, unpack_fails, unpack_gives, items_at}
 use Rattle.lib_math_table.proofs.unpacking.unpack.Goals as goal
 

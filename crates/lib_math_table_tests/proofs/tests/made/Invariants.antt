@@ -8,3 +8,9 @@ invariant-loop-row g l = record {
   world : IsWorld l.world;
   own : MayUseIn l.world (Table l.own);
 }
+
+abbrev pub invariant-loop-two : goal.invariant-loop-two
+invariant-loop-two g l = record {
+  world : IsWorld l.world;
+  own : MayUseIn l.world (Table l.own);
+}

@@ -3,10 +3,10 @@ use Rattle.luau_tables.proofs.WorldsKept.{keeps_on}
 use Rattle.lib_math_table_tests.proofs.tests.made_into.Goals as goal
 
 pub called-requires-clause-builtin : goal.called-requires-clause-builtin
-called-requires-clause-builtin g c = inr c.requires.builtin
+called-requires-clause-builtin g c = inr c.requires.first
 
 pub called-requires-2-clause-builtin : goal.called-requires-2-clause-builtin
-called-requires-2-clause-builtin g c = inr tt
+called-requires-2-clause-builtin g c = inr c.requires.second
 
 pub returns-in_err-made : goal.returns-in_err-made
 returns-in_err-made g c = keeps_on _ _ _ c.values_of.ensures.keeps c.called.ensures.keeps

@@ -1,4 +1,5 @@
 use Rattle.std.proofs.Common.{◌∙◌, ◌<◌, ◌∷◌, [], ◌++◌, length, true, false, arith, sym, ap}
+use Rattle.table_lists.proofs.Copies.{are_filled}
 use Rattle.table_lists.proofs.Wholes.{filled_more, filled_all}
 use Rattle.table_lists.proofs.copy.entries.Goals as goal
 use Rattle.table_lists.proofs.copy.entries.Goals.{then-not-is_nil+in_ok-push, else-not-is_nil}
@@ -20,7 +21,14 @@ loop-place-preserved c =
           ∙ sym (filled_more es c.loop-place.place e true l c.at-entry.ensures (sym c.is_nil.ensures ∙ w.if-not-is_nil.false))
     ]
 
-pub returns : goal.returns
-returns c =
+pub returns-clause-entries : goal.returns-clause-entries
+returns-clause-entries c =
     c.loop-place.invariant
     ∙ filled_all c.args.table.now.entries c.loop-place.place (omega (arith, c.loop-place-test.false, c.len-place-end.ensures.len))
+
+pub returns-clause-keys : goal.returns-clause-keys
+returns-clause-keys c =
+    are_filled c.loop-place.kept.items c.args.table.now.entries
+    (c.loop-place.invariant
+    ∙ filled_all c.args.table.now.entries c.loop-place.place (omega (arith, c.loop-place-test.false, c.len-place-end.ensures.len)))
+    c.len-place-end.ensures.keys c.len-place-end.ensures.distinct

@@ -1,7 +1,7 @@
 use Rattle.std.proofs.Common.{◌≡◌, sym, ◌∙◌, ap, rules}
 use Rattle.value_model.specs.declared.value.Value.TheVariants.{Num}
 use Rattle.value_arena.specs.Tables as spec
-use Rattle.value_arena.proofs.WholeKeys.{none_out_of_range}
+use Rattle.value_arena.proofs.Keys.{none_out_of_range}
 use Rattle.value_arena.proofs.table.Table.item.Goals as goal
 
 pub returns-in-Some-clause-value : goal.returns-in-Some-clause-value
@@ -11,5 +11,5 @@ returns-in-Some-clause-value c =
 
 pub returns-in-None-clause-value : goal.returns-in-None-clause-value
 returns-in-None-clause-value c =
-    let out : spec.IsWholeKey (Num c.args.number) → ⊥ = search rules in
+    let out : spec.IsKey (Num c.args.number) → ⊥ = search rules in
     none_out_of_range c.self.inside.entries.entries c.args.number c.self.invariant.2 out ∙ ap (λ (t : spec.TableView). spec.value_in t.entries (Num c.args.number)) c.self.view_is

@@ -6,4 +6,4 @@ pub invariant_of-result : goal.invariant_of-result
 unfolding spec.border_of
 invariant_of-result c =
     let none : c.new.result.entries ≡ [] = search rules in
-    subst (λ es. (0 ≡ spec.border_of es) × (length es ≤ spec.most_entries) × spec.AreWholeKeys es) (sym none) (refl, omega arith, tt)
+    subst (λ es. (0 ≡ spec.border_of es) × (length es ≤ spec.most_entries) × spec.HasKeys es) (sym none) (refl, omega arith, tt)

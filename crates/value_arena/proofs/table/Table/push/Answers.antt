@@ -3,7 +3,7 @@ use Rattle.value_arena.specs.Tables as spec
 use Rattle.value_arena.specs.Borders.{IsBorderBut}
 use Rattle.value_arena.proofs.Written.{inserted, pushed}
 use Rattle.value_arena.proofs.Borders.{put, value_put, border_put}
-use Rattle.value_arena.proofs.WholeKeys.{whole_behind}
+use Rattle.value_arena.proofs.Keys.{key_behind}
 use Rattle.value_arena.proofs.table.Table.push.Goals as goal
 
 pub border_after-self-inside-requires-clause-before : goal.border_after-self-inside-requires-clause-before
@@ -35,4 +35,4 @@ invariant_of-self-2 c =
     let was : spec.place_of c.args.key es ≡ spec.place_of c.args.key c.args.self.now.entries = ap (λ (t : spec.TableView). spec.place_of c.args.key t.entries) c.self.view_is in
     let now : c.insert.new.self.entries ≡ es ++ (c.args.key, c.args.value) ∷ [] = c.in_ok-insert.ensures.entries ∙ inserted es c.args.key c.args.value (was ∙ c.requires.new) in
     let few : length c.insert.new.self.entries ≤ spec.most_entries = omega (arith, ap length now, length-append es ((c.args.key, c.args.value) ∷ [])) in
-    (c.border_after-self-inside.ensures, few, subst spec.AreWholeKeys (sym now) (whole_behind es c.args.key c.args.value c.self.invariant.2 c.key_in_range.ensures))
+    (c.border_after-self-inside.ensures, few, subst spec.HasKeys (sym now) (key_behind es c.args.key c.args.value c.self.invariant.2 c.key_in_range.ensures))

@@ -4,7 +4,7 @@ use Rattle.value_arena.specs.Tables as spec
 use Rattle.value_arena.specs.Borders.{IsBorderBut}
 use Rattle.value_arena.proofs.Written.{replaced}
 use Rattle.value_arena.proofs.Borders.{put, value_put, border_put}
-use Rattle.value_arena.proofs.WholeKeys.{whole_written}
+use Rattle.value_arena.proofs.Keys.{keys_written}
 use Rattle.value_arena.proofs.table.Table.write.Goals as goal
 
 pub border_after-self-inside-requires-clause-few : goal.border_after-self-inside-requires-clause-few
@@ -32,5 +32,5 @@ pub invariant_of-self : goal.invariant_of-self
 invariant_of-self c = (
   c.border_after-self-inside.ensures,
   subst (λ n. n ≤ spec.most_entries) (sym (ap length c.write.ensures.written ∙ length-set_value_at c.self.inside.entries.entries c.args.place c.args.value)) c.self.invariant.1,
-  subst spec.AreWholeKeys (sym c.write.ensures.written) (whole_written c.self.inside.entries.entries c.args.place c.args.value c.self.invariant.2),
+  subst spec.HasKeys (sym c.write.ensures.written) (keys_written c.self.inside.entries.entries c.args.place c.args.value c.self.invariant.2),
 )
