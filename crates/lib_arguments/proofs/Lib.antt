@@ -3,3 +3,4 @@ pub mod Found
 pub mod Looks
 pub mod NamesKept
 pub mod RowsRun
+pub mod Saying

@@ -1,9 +1,10 @@
-//! The arguments of library functions, and how these end.
+//! The arguments of library functions, what metatables say of them, and how the functions end.
 #![tactic(auto)]
 
 mod argument;
 mod ending;
 mod giving;
+mod metatables;
 mod number;
 mod text;
 
@@ -12,5 +13,6 @@ pub use argument::{
 };
 pub use ending::{Ending, answer};
 pub use giving::{give, give_all, give_count, give_text};
+pub use metatables::{metatable, said_by, tostring_of};
 pub use number::{as_number, number_at, number_from, number_or};
 pub use text::{text_at, text_from, text_or, text_value};

@@ -1,6 +1,6 @@
 //! Metatables.
 
-ghost use Rattle.std.specs.Prelude.{◌≡◌, ◌<◌, List, length, map, codes, IfOk, option_map};
+ghost use Rattle.std.specs.Prelude.{◌≡◌, List, map, codes, IfOk, option_map};
 ghost use Rattle.std.specs.List.{AllByRecursion};
 ghost use Rattle.value_model.specs.CoreRows as core;
 ghost use Rattle.value_model.specs.Parts.{meant};
@@ -8,55 +8,16 @@ ghost use Rattle.luau_tables.specs.Worlds.{IsWorld, Keeps, MayUseIn, store_in};
 ghost use Rattle.lib_arguments.specs.Rows.{Runs};
 ghost use Rattle.luau_tables.specs.Part.{OfSome};
 ghost use Rattle.value_model.specs.Metamethods as model;
-ghost use Rattle.value_model.specs.Parts.{bytes_at, table_ref};
+ghost use Rattle.value_model.specs.Parts.{table_ref};
 ghost use Rattle.value_model.specs.Values.{Bytes};
 ghost use Rattle.value_model.specs.declared.value.Value.TheVariants.{Table};
 ghost use Rattle.lib_arguments.specs.Checks.{Checks};
 ghost use Rattle.value_arena.specs.Tables.{is_nil};
 ghost use Rattle.lib_core.specs.MetaGiven.{meta_row};
 
-use byte_text::StrId;
-use lib_arguments::{Ending, any_at, give, table_at, table_from, wanted};
+use lib_arguments::{Ending, any_at, give, metatable, said_by, table_at, table_from, wanted};
 use luau_tables::{LibWorld, MetaErr, set_meta};
 use value_model::{Builtin, Kind, RunErr, TableId, Value, Wanted};
-
-// The metatable of a value.
-pub(crate) fn metatable(world: &LibWorld, v: &Value) -> Option<TableId>
-    requires world { IsWorld world.now }
-    requires v { MayUseIn world.now v.now }
-    ensures meant { option_map table_ref result ≡ core.metatable_of (store_in world.now) (meant world.now.names v.now) }
-    ensures usable { OfSome (λ m. MayUseIn world.now (Table m)) result }
-{
-    match *v {
-        Value::Table(t) => world.arena.table(t).meta(),
-        Value::Str(_) => Some(world.globals.string_meta),
-        _ => None,
-    }
-}
-
-// What a metatable says under a name.
-pub(crate) fn said_by(world: &LibWorld, meta: Option<TableId>, name: StrId) -> Value
-    requires world { IsWorld world.now }
-    requires meta { OfSome (λ m. MayUseIn world.now (Table m)) meta }
-    requires name { name.0 < length world.now.names }
-    ensures meant { meant world.now.names result ≡ model.said_by (store_in world.now) (option_map table_ref meta) (bytes_at world.now.names name.0) }
-    ensures usable { MayUseIn world.now result }
-{
-    match meta {
-        Some(m) => world.arena.table(m).value(Value::Str(name)),
-        None => Value::Nil,
-    }
-}
-
-// What the metatable of a value says under `__tostring`.
-pub(crate) fn tostring_of(world: &LibWorld, v: &Value) -> Value
-    requires world { IsWorld world.now }
-    requires v { MayUseIn world.now v.now }
-    ensures meant { meant world.now.names result ≡ model.metamethod (store_in world.now) (meant world.now.names v.now) (codes "__tostring") }
-    ensures usable { MayUseIn world.now result }
-{
-    said_by(world, metatable(world, v), world.globals.meta.tostring)
-}
 
 // What a metatable says under `__metatable`.
 fn hidden_by(world: &LibWorld, meta: Option<TableId>) -> Value

@@ -12,9 +12,8 @@ ghost use Rattle.luau_tables.specs.Worlds.{IsWorld, Keeps, MayUseIn, store_in};
 ghost use Rattle.lib_arguments.specs.Rows.{Runs};
 ghost use Rattle.lib_core.specs.Asking.{Asks, PrintsOne};
 
-use crate::metatable::tostring_of;
 use byte_text::Bytes;
-use lib_arguments::{Ending, answer, any_at, give_text};
+use lib_arguments::{Ending, answer, any_at, give_text, tostring_of};
 use luau_tables::{LibAnswer, LibWorld, plain_into};
 use resource::OutOfMemory;
 use std::alloc::Global;

@@ -7,7 +7,6 @@ pub mod FormatAnswers
 pub mod FormatSteps
 pub mod GivenValues
 pub mod ListedTables
-pub mod MetaRows
 pub mod NumbersThere
 pub mod PieceTexts
 pub mod PiecesRead

@@ -10,8 +10,7 @@ ghost use Rattle.value_model.specs.FormatRows as row;
 
 use crate::argument_text::{byte_at, decimal_at, hex_at, plain_text_into};
 use crate::directive::{Field, Form};
-use crate::metatable::tostring_of;
-use lib_arguments::{Ending, any_at};
+use lib_arguments::{Ending, any_at, tostring_of};
 use luau_tables::LibWorld;
 use resource::OutOfMemory;
 use std::alloc::Global;

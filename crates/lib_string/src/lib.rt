@@ -10,7 +10,6 @@ mod directive;
 mod filling;
 mod format;
 mod giving;
-mod metatable;
 mod positions;
 mod repetition;
 mod split;

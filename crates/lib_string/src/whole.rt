@@ -125,13 +125,13 @@ fn changed(alloc: Global, f: Builtin, bytes: &[u8]) -> Result<Vec<u8>, OutOfMemo
 fn lower(alloc: Global, bytes: &[u8]) -> Result<Vec<u8>, OutOfMemory>
     ensures { IfOk result (λ v. v.items ≡ map to_ascii_lowercase bytes.now) }
 {
-    Ok(bytes.iter().map(|b| b.to_ascii_lowercase()).collect(alloc)?)
+    Ok(bytes.to_ascii_lowercase(alloc)?)
 }
 
 fn upper(alloc: Global, bytes: &[u8]) -> Result<Vec<u8>, OutOfMemory>
     ensures { IfOk result (λ v. v.items ≡ map to_ascii_uppercase bytes.now) }
 {
-    Ok(bytes.iter().map(|b| b.to_ascii_uppercase()).collect(alloc)?)
+    Ok(bytes.to_ascii_uppercase(alloc)?)
 }
 
 fn mirrored(alloc: Global, bytes: &[u8]) -> Result<Vec<u8>, OutOfMemory>

@@ -1,6 +1,6 @@
 use Rattle.std.proofs.Common.{codes}
 use Rattle.std.proofs.lemmas.Option.{slice_get_within}
-use Rattle.lib_core.proofs.MetaRows.{says_name}
+use Rattle.lib_arguments.proofs.Saying.{says_name}
 use Rattle.lib_core.proofs.metatable.hidden_by.Goals as goal
 
 pub said_by-requires-clause-name : goal.said_by-requires-clause-name

@@ -1,7 +1,8 @@
 use Rattle.std.proofs.Common.{not, refl, ap, ◌∙◌}
 use Rattle.value_arena.specs.Tables.{TableView}
 use Rattle.value_model.specs.declared.value.Value.TheVariants as value
-use Rattle.lib_core.proofs.MetaRows.{protected_is, table_meta_usable}
+use Rattle.lib_arguments.proofs.Saying.{table_meta_usable}
+use Rattle.lib_core.proofs.MetaRows.{protected_is}
 use Rattle.lib_core.proofs.metatable.is_protected.Goals as goal
 
 pub table-requires : goal.table-requires

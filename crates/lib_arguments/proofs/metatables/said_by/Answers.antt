@@ -4,8 +4,8 @@ use Rattle.luau_tables.specs.Worlds.{MayUseIn}
 use Rattle.value_arena.specs.Tables.{TableView, value_in}
 use Rattle.value_model.specs.Parts.{bytes_at}
 use Rattle.value_model.specs.declared.value.Value.TheVariants as value
-use Rattle.lib_core.proofs.MetaRows.{some_says, says_usable, none_says}
-use Rattle.lib_core.proofs.metatable.said_by.Goals as goal
+use Rattle.lib_arguments.proofs.Saying.{some_says, says_usable, none_says}
+use Rattle.lib_arguments.proofs.metatables.said_by.Goals as goal
 
 pub table-requires : goal.table-requires
 table-requires c = let w = c.args.world.now in (subst (OfSome (λ m. MayUseIn w (value.Table m))) c.in-Some.is c.requires.meta).0.1

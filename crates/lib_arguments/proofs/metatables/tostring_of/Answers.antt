@@ -1,7 +1,7 @@
 use Rattle.std.proofs.Common.{codes}
 use Rattle.std.proofs.lemmas.Option.{slice_get_within}
-use Rattle.lib_string.proofs.MetaRows.{says_name, says_metamethod}
-use Rattle.lib_string.proofs.metatable.tostring_of.Goals as goal
+use Rattle.lib_arguments.proofs.Saying.{says_name, says_metamethod}
+use Rattle.lib_arguments.proofs.metatables.tostring_of.Goals as goal
 
 pub said_by-requires-clause-name : goal.said_by-requires-clause-name
 said_by-requires-clause-name c = slice_get_within _ _ _ c.requires.world.own.globals.names.tostring

@@ -1,4 +1,4 @@
-//! What metatables say under `__tostring`.
+//! Metatables of values, and what they say under a name.
 
 ghost use Rattle.std.specs.Prelude.{◌≡◌, ◌<◌, codes, length, option_map};
 ghost use Rattle.luau_tables.specs.Part.{OfSome};
@@ -13,7 +13,7 @@ use luau_tables::LibWorld;
 use value_model::{TableId, Value};
 
 /// What the metatable of a value says under `__tostring`, or nil.
-pub(crate) fn tostring_of(world: &LibWorld, v: &Value) -> Value
+pub fn tostring_of(world: &LibWorld, v: &Value) -> Value
     requires world { IsWorld world.now }
     requires v { MayUseIn world.now v.now }
     ensures meant { meant world.now.names result ≡ model.metamethod (store_in world.now) (meant world.now.names v.now) (codes "__tostring") }
@@ -22,8 +22,8 @@ pub(crate) fn tostring_of(world: &LibWorld, v: &Value) -> Value
     said_by(world, metatable(world, v), world.globals.meta.tostring)
 }
 
-// The metatable of a value.
-fn metatable(world: &LibWorld, v: &Value) -> Option<TableId>
+/// The metatable of a value.
+pub fn metatable(world: &LibWorld, v: &Value) -> Option<TableId>
     requires world { IsWorld world.now }
     requires v { MayUseIn world.now v.now }
     ensures meant { option_map table_ref result ≡ core.metatable_of (store_in world.now) (meant world.now.names v.now) }
@@ -36,8 +36,8 @@ fn metatable(world: &LibWorld, v: &Value) -> Option<TableId>
     }
 }
 
-// What a metatable says under a name.
-fn said_by(world: &LibWorld, meta: Option<TableId>, name: StrId) -> Value
+/// What a metatable says under a name; nil where there is none.
+pub fn said_by(world: &LibWorld, meta: Option<TableId>, name: StrId) -> Value
     requires world { IsWorld world.now }
     requires meta { OfSome (λ m. MayUseIn world.now (Table m)) meta }
     requires name { name.0 < length world.now.names }

@@ -1,7 +1,7 @@
 use Rattle.std.proofs.Common.{◌∙◌, ap}
 use Rattle.value_arena.specs.Tables.{TableView}
-use Rattle.lib_string.proofs.MetaRows.{table_meta, table_meta_usable, text_meta, text_meta_usable, no_meta}
-use Rattle.lib_string.proofs.metatable.metatable.Goals as goal
+use Rattle.lib_arguments.proofs.Saying.{table_meta, table_meta_usable, text_meta, text_meta_usable, no_meta}
+use Rattle.lib_arguments.proofs.metatables.metatable.Goals as goal
 
 pub returns-in-Table-clause-meant : goal.returns-in-Table-clause-meant
 returns-in-Table-clause-meant c =
