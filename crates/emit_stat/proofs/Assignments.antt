@@ -29,11 +29,11 @@ use Rattle.op_words.specs.declared.insn.Insn.{Insn}
 use Rattle.code_link.specs.declared.item.Item.TheVariants as item
 use Rattle.built_values.specs.declared.value.Value.TheVariants as value
 use Rattle.built_values.specs.declared.value.Value.{Value}
-use Rattle.source_meaning.specs.Steps as source
-use Rattle.source_meaning.specs.States.{Environment, Frame, Assigns, Evaluate, Execute, Done}
-use Rattle.machine_meaning.specs.Steps as machine
-use Rattle.machine_meaning.specs.declared.code.Constant.{Constant}
-use Rattle.machine_meaning.specs.States.{Registers, put}
+use Rattle.built_source.specs.Steps as source
+use Rattle.built_source.specs.States.{Environment, Frame, Assigns, Evaluate, Execute, Done}
+use Rattle.built_machine.specs.Steps as machine
+use Rattle.built_machine.specs.declared.code.Constant.{Constant}
+use Rattle.built_machine.specs.States.{Registers, put}
 use Rattle.emit_stat.specs.Size as size
 use Rattle.emit_stat.specs.Unbuilt.{steps, uses_of, unbuilt_in_stat, assignment}
 use Rattle.emit_stat.specs.Names.{names_after, register_of}

@@ -11,10 +11,10 @@ use Rattle.code_link.specs.Labels.{place_in}
 use Rattle.code_link.specs.Linking.{IsLinked}
 use Rattle.built_values.specs.declared.end.End.TheVariants.{Ended}
 use Rattle.built_values.proofs.Together as together
-use Rattle.source_meaning.specs.States.{Done, ExecuteAll}
-use Rattle.source_meaning.specs.Runs as source
-use Rattle.machine_meaning.specs.declared.code.Constant.{Constant}
-use Rattle.machine_meaning.specs.States as machine
+use Rattle.built_source.specs.States.{Done, ExecuteAll}
+use Rattle.built_source.specs.Runs as source
+use Rattle.built_machine.specs.declared.code.Constant.{Constant}
+use Rattle.built_machine.specs.States as machine
 use Rattle.emit_stat.specs.Fits.{AllFit}
 use Rattle.emit_stat.specs.Standing.{IsBound}
 use Rattle.emit_stat.specs.Unbuilt.{first_unbuilt}

@@ -30,10 +30,10 @@ use Rattle.code_link.specs.declared.item.Item.TheVariants as item
 use Rattle.code_link.specs.declared.item.Item.{Item}
 use Rattle.built_values.specs.declared.value.Value.TheVariants as value
 use Rattle.built_values.specs.declared.value.Value.{Value}
-use Rattle.source_meaning.specs.Steps as source
-use Rattle.source_meaning.specs.States.{Environment, Frame, Chooses, Restores, Evaluate, Give, Execute, ExecuteAll, Choose, Done}
-use Rattle.machine_meaning.specs.declared.code.Constant.{Constant}
-use Rattle.machine_meaning.specs.States.{Registers}
+use Rattle.built_source.specs.Steps as source
+use Rattle.built_source.specs.States.{Environment, Frame, Chooses, Restores, Evaluate, Give, Execute, ExecuteAll, Choose, Done}
+use Rattle.built_machine.specs.declared.code.Constant.{Constant}
+use Rattle.built_machine.specs.States.{Registers}
 use Rattle.emit_stat.specs.Size as size
 use Rattle.emit_stat.specs.Unbuilt.{Found, or_else, steps, uses_of, unbuilt_in_stat, unbuilt_in_arm, first_unbuilt, choice}
 use Rattle.emit_stat.specs.Fitting.{LocalsFit}

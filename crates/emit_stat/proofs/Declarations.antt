@@ -25,9 +25,9 @@ use Rattle.scope_laws.specs.Sight.{Part}
 use Rattle.code_link.specs.declared.item.Item.TheVariants as item
 use Rattle.built_values.specs.declared.value.Value.TheVariants as value
 use Rattle.built_values.specs.declared.value.Value.{Value}
-use Rattle.source_meaning.specs.States.{Environment, Frame, Declares, Evaluate, Execute, Done}
-use Rattle.machine_meaning.specs.declared.code.Constant.{Constant}
-use Rattle.machine_meaning.specs.States.{Registers}
+use Rattle.built_source.specs.States.{Environment, Frame, Declares, Evaluate, Execute, Done}
+use Rattle.built_machine.specs.declared.code.Constant.{Constant}
+use Rattle.built_machine.specs.States.{Registers}
 use Rattle.emit_stat.specs.Size as size
 use Rattle.emit_stat.specs.Unbuilt.{steps, uses_of, unbuilt_in_stat, local_statement}
 use Rattle.emit_stat.specs.Names.{names_after, names_beyond}

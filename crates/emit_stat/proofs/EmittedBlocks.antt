@@ -4,7 +4,7 @@ use Rattle.std.proofs.lemmas.List.{append-nil, drop_all}
 use Rattle.byte_text.specs.declared.fixed.StrId.{StrId}
 use Rattle.syntax_tree.specs.declared.bindings.Bindings.{Bindings}
 use Rattle.syntax_tree.specs.declared.tree.Stat.{Stat}
-use Rattle.machine_meaning.specs.declared.code.Constant.TheVariants as constant
+use Rattle.built_machine.specs.declared.code.Constant.TheVariants as constant
 use Rattle.code_link.specs.declared.item.Item.{Item}
 use Rattle.built_values.specs.Globals.{print_name}
 use Rattle.emit_stat.specs.declared.draft.Draft.{Draft}

@@ -14,8 +14,8 @@ use Rattle.code_link.specs.declared.item.Item.TheVariants as item
 use Rattle.code_link.specs.declared.item.Item.{Item}
 use Rattle.code_link.specs.Labels.{is_jump, word_count}
 use Rattle.built_values.specs.Globals.{print_name}
-use Rattle.machine_meaning.specs.declared.code.Constant.TheVariants as constant
-use Rattle.machine_meaning.specs.declared.code.Constant.{Constant}
+use Rattle.built_machine.specs.declared.code.Constant.TheVariants as constant
+use Rattle.built_machine.specs.declared.code.Constant.{Constant}
 use Rattle.emit_stat.specs.Operations.{unless}
 use Rattle.emit_stat.specs.Size.{expr_words}
 use Rattle.emit_stat.specs.declared.draft.Draft.{Draft}

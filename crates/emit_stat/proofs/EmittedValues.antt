@@ -15,7 +15,7 @@ use Rattle.op_words.specs.declared.insn.Insn.{Insn}
 use Rattle.op_words.specs.declared.insn.Insn.TheVariants as insn
 use Rattle.code_link.specs.declared.item.Item.TheVariants as item
 use Rattle.code_link.specs.Labels.{word_count}
-use Rattle.machine_meaning.specs.declared.code.Constant.TheVariants as constant
+use Rattle.built_machine.specs.declared.code.Constant.TheVariants as constant
 use Rattle.syntax_tree.specs.Limits.{most_registers}
 use Rattle.emit_stat.specs.declared.draft.Draft.{Draft}
 use Rattle.emit_stat.specs.Names.{register_of}

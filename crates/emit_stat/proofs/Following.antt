@@ -26,13 +26,13 @@ use Rattle.built_values.specs.declared.end.End.{End}
 use Rattle.built_values.specs.declared.end.End.TheVariants.{Stuck, Stopped}
 use Rattle.built_values.specs.Runs.{Ends}
 use Rattle.built_values.specs.Operations.{Outcome, is_true, equal, less, less_or_equal}
-use Rattle.source_meaning.specs.Steps as source
-use Rattle.source_meaning.specs.States.{Environment, Frame, LeftOperand, RightOperand, Restores, Focus, Evaluate, Give, Execute, ExecuteAll, Done, State}
-use Rattle.source_meaning.specs.Levels.{ExprLevel, StatLevel}
-use Rattle.machine_meaning.specs.States as states
-use Rattle.machine_meaning.specs.Steps as machine
-use Rattle.machine_meaning.specs.declared.code.Constant.{Constant}
-use Rattle.machine_meaning.specs.States.{Registers}
+use Rattle.built_source.specs.Steps as source
+use Rattle.built_source.specs.States.{Environment, Frame, LeftOperand, RightOperand, Restores, Focus, Evaluate, Give, Execute, ExecuteAll, Done, State}
+use Rattle.built_source.specs.Levels.{ExprLevel, StatLevel}
+use Rattle.built_machine.specs.States as states
+use Rattle.built_machine.specs.Steps as machine
+use Rattle.built_machine.specs.declared.code.Constant.{Constant}
+use Rattle.built_machine.specs.States.{Registers}
 use Rattle.emit_stat.specs.Names.{names_after, names_beyond}
 use Rattle.emit_stat.specs.Operations.{operation, unless}
 use Rattle.emit_stat.specs.Code.{IsTestCode, IsNumberCode, IsValueCode}

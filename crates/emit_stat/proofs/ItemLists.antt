@@ -5,7 +5,7 @@ use Rattle.std.proofs.lemmas.List.{append-nil}
 use Rattle.code_link.specs.declared.item.Item.{Item}
 use Rattle.code_link.specs.declared.item.Item.TheVariants as item
 use Rattle.code_link.specs.Labels.{word_count}
-use Rattle.machine_meaning.specs.declared.code.Constant.{Constant}
+use Rattle.built_machine.specs.declared.code.Constant.{Constant}
 use Rattle.emit_stat.specs.declared.draft.Draft.{Draft}
 use Rattle.emit_stat.specs.Fits.{AllFit}
 use Rattle.emit_stat.specs.Emitted.{Extends, Appends}

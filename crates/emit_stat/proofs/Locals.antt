@@ -10,8 +10,8 @@ use Rattle.std.specs.Prelude.{slice_index_or, slice_set}
 use Rattle.byte_text.specs.declared.fixed.StrId.{StrId}
 use Rattle.built_values.specs.declared.value.Value.{Value}
 use Rattle.built_values.specs.declared.value.Value.TheVariants.{Nil}
-use Rattle.source_meaning.specs.States.{Environment, cell_of}
-use Rattle.machine_meaning.specs.States.{Registers, put}
+use Rattle.built_source.specs.States.{Environment, cell_of}
+use Rattle.built_machine.specs.States.{Registers, put}
 use Rattle.emit_stat.proofs.NewestNames.{newest_register}
 
 -- ---- registers

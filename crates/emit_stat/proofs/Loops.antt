@@ -30,12 +30,12 @@ use Rattle.code_link.specs.declared.item.Item.{Item}
 use Rattle.built_values.specs.declared.value.Value.TheVariants as value
 use Rattle.built_values.proofs.Together as together
 use Rattle.built_values.specs.declared.value.Value.{Value}
-use Rattle.source_meaning.specs.Steps as source
-use Rattle.source_meaning.specs.States.{Environment, Frame, Loops, Repeats, Restores, Evaluate, Give, Execute, ExecuteAll, Done}
-use Rattle.source_meaning.specs.Runs.{start}
-use Rattle.machine_meaning.specs.Steps as machine
-use Rattle.machine_meaning.specs.declared.code.Constant.{Constant}
-use Rattle.machine_meaning.specs.States.{Registers}
+use Rattle.built_source.specs.Steps as source
+use Rattle.built_source.specs.States.{Environment, Frame, Loops, Repeats, Restores, Evaluate, Give, Execute, ExecuteAll, Done}
+use Rattle.built_source.specs.Runs.{start}
+use Rattle.built_machine.specs.Steps as machine
+use Rattle.built_machine.specs.declared.code.Constant.{Constant}
+use Rattle.built_machine.specs.States.{Registers}
 use Rattle.emit_stat.specs.Size as size
 use Rattle.emit_stat.specs.Unbuilt.{or_else, steps, uses_of, unbuilt_in_stat, first_unbuilt}
 use Rattle.emit_stat.specs.Fitting.{LocalsFit}

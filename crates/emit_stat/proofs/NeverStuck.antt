@@ -26,10 +26,10 @@ use Rattle.built_values.specs.Runs.{Ends, Stamped, Report, Goes, Shows, Charges}
 use Rattle.built_values.specs.Operations.{Outcome, printed, equal, less, less_or_equal, as_value, sum, difference, product}
 use Rattle.built_values.proofs.Runs.{one_report}
 use Rattle.built_values.proofs.Together.{Comes, comes_by}
-use Rattle.source_meaning.specs.Steps as source
-use Rattle.source_meaning.specs.States.{Environment, Frame, LeftOperand, RightOperand, Continues, Restores, Focus, Evaluate, Give, Execute, ExecuteAll, Done, State, cell_of}
-use Rattle.source_meaning.specs.Levels.{StatLevel}
-use Rattle.source_meaning.specs.Runs.{start, SourceRun}
+use Rattle.built_source.specs.Steps as source
+use Rattle.built_source.specs.States.{Environment, Frame, LeftOperand, RightOperand, Continues, Restores, Focus, Evaluate, Give, Execute, ExecuteAll, Done, State, cell_of}
+use Rattle.built_source.specs.Levels.{StatLevel}
+use Rattle.built_source.specs.Runs.{start, SourceRun}
 use Rattle.emit_stat.specs.Names.{names_after, names_beyond, register_of}
 use Rattle.emit_stat.specs.Operations.{operation, unless}
 use Rattle.emit_stat.proofs.Following.{opened}

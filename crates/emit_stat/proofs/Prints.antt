@@ -32,12 +32,12 @@ use Rattle.built_values.specs.Globals.{print_name}
 use Rattle.built_values.specs.declared.value.Value.{Value}
 use Rattle.built_values.specs.declared.end.End.TheVariants.{Stuck}
 use Rattle.built_values.specs.Operations.{printed}
-use Rattle.source_meaning.specs.Steps as source
-use Rattle.source_meaning.specs.States.{Environment, Frame, Callee, Argument, Discards, Evaluate, Give, Execute, Done}
-use Rattle.machine_meaning.specs.declared.code.Constant.TheVariants as constant
-use Rattle.machine_meaning.specs.Steps as machine
-use Rattle.machine_meaning.specs.declared.code.Constant.{Constant}
-use Rattle.machine_meaning.specs.States.{Registers, put}
+use Rattle.built_source.specs.Steps as source
+use Rattle.built_source.specs.States.{Environment, Frame, Callee, Argument, Discards, Evaluate, Give, Execute, Done}
+use Rattle.built_machine.specs.declared.code.Constant.TheVariants as constant
+use Rattle.built_machine.specs.Steps as machine
+use Rattle.built_machine.specs.declared.code.Constant.{Constant}
+use Rattle.built_machine.specs.States.{Registers, put}
 use Rattle.emit_stat.specs.Size as size
 use Rattle.emit_stat.specs.Unbuilt.{steps, uses_of, unbuilt_in_stat, ExprUses, kind_uses, print_call}
 use Rattle.emit_stat.specs.Form.{room, IsValue, IsCall, IsStatement}

@@ -14,8 +14,8 @@ use Rattle.code_link.specs.declared.item.Item.TheVariants.{Insn, Branch, Label}
 use Rattle.code_link.specs.Labels.{is_jump}
 use Rattle.code_link.specs.Linking.{jumping, JumpsTo, Stands}
 use Rattle.code_link.proofs.Placing.{length-jumping}
-use Rattle.machine_meaning.specs.States.{Registers}
-use Rattle.machine_meaning.specs.Steps as machine
+use Rattle.built_machine.specs.States.{Registers}
+use Rattle.built_machine.specs.Steps as machine
 use Rattle.emit_stat.specs.Fits.{AllFit}
 
 -- a jump is read there, and it leads to the label's place

@@ -7,11 +7,11 @@ use Rattle.syntax_tree.specs.declared.tree.Stat.{Stat}
 use Rattle.syntax_tree.specs.declared.tree.StatKind.{out-StatKind}
 use Rattle.code_link.specs.declared.item.Item.{Item}
 use Rattle.built_values.specs.declared.value.Value.{Value}
-use Rattle.source_meaning.specs.States.{Environment, Frame, Continues, Restores, Execute, ExecuteAll, Done}
-use Rattle.source_meaning.specs.Levels.{StatLevel}
-use Rattle.source_meaning.specs.Runs.{start}
-use Rattle.machine_meaning.specs.declared.code.Constant.{Constant}
-use Rattle.machine_meaning.specs.States.{Registers}
+use Rattle.built_source.specs.States.{Environment, Frame, Continues, Restores, Execute, ExecuteAll, Done}
+use Rattle.built_source.specs.Levels.{StatLevel}
+use Rattle.built_source.specs.Runs.{start}
+use Rattle.built_machine.specs.declared.code.Constant.{Constant}
+use Rattle.built_machine.specs.States.{Registers}
 use Rattle.emit_stat.specs.Names.{names_after, names_beyond}
 use Rattle.emit_stat.specs.Code.{IsStatementCode, IsBlockCode}
 use Rattle.emit_stat.proofs.Following.{names_are, Same, by_source, at_place, Afterwards, Back, BlockRuns, unchanged}

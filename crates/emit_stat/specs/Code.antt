@@ -13,9 +13,9 @@ use Rattle.op_words.specs.declared.insn.Insn.TheVariants as insn
 use Rattle.code_link.specs.declared.item.Item.{Item}
 use Rattle.code_link.specs.declared.item.Item.TheVariants as item
 use Rattle.built_values.specs.Globals.{print_name}
-use Rattle.machine_meaning.specs.declared.code.Constant.{Constant}
-use Rattle.machine_meaning.specs.declared.code.Constant.TheVariants as constant
-use Rattle.machine_meaning.specs.Steps.{constant_at}
+use Rattle.built_machine.specs.declared.code.Constant.{Constant}
+use Rattle.built_machine.specs.declared.code.Constant.TheVariants as constant
+use Rattle.built_machine.specs.Steps.{constant_at}
 use Rattle.emit_stat.specs.Names.{register_of, names_after}
 use Rattle.emit_stat.specs.Operations.{operation, unless}
 

@@ -6,11 +6,11 @@ use Rattle.syntax_tree.specs.declared.tree.Stat.{Stat}
 use Rattle.syntax_tree.specs.declared.tree.Tree.{Tree}
 use Rattle.built_values.specs.declared.end.End.TheVariants.{Stuck}
 use Rattle.built_values.specs.Runs.{Report, Agree}
-use Rattle.source_meaning.specs.Steps as source
-use Rattle.source_meaning.specs.Runs.{SourceRun}
-use Rattle.machine_meaning.specs.declared.code.Constant.{Constant}
-use Rattle.machine_meaning.specs.Steps as machine
-use Rattle.machine_meaning.specs.Runs.{MachineRun}
+use Rattle.built_source.specs.Steps as source
+use Rattle.built_source.specs.Runs.{SourceRun}
+use Rattle.built_machine.specs.declared.code.Constant.{Constant}
+use Rattle.built_machine.specs.Steps as machine
+use Rattle.built_machine.specs.Runs.{MachineRun}
 use Rattle.emit_stat.specs.Standing.{IsBound}
 use Rattle.emit_stat.specs.Unbuilt.{first_unbuilt}
 

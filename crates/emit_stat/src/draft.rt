@@ -6,7 +6,7 @@ ghost use Rattle.emit_stat.specs.Emitted.{Appends};
 ghost use Rattle.emit_stat.specs.Fits.{AllFit};
 
 use code_link::Item;
-use machine_meaning::Constant;
+use built_machine::Constant;
 use resource::OutOfMemory;
 use whole_num::Whole;
 

@@ -13,7 +13,7 @@ use crate::scope::Scope;
 use crate::statements::emit_block;
 use byte_text::StrId;
 use code_link::{Item, Labelled, Linked, link};
-use machine_meaning::{Code, Constant};
+use built_machine::{Code, Constant};
 use op_words::Insn;
 use resource::OutOfMemory;
 use std::alloc::Global;

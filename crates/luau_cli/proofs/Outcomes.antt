@@ -6,9 +6,9 @@ use Rattle.syntax_tree.specs.declared.tree.Tree.{Tree}
 use Rattle.built_values.specs.declared.end.End.{End}
 use Rattle.built_values.specs.declared.end.End.TheVariants.{Ended, Stopped, Unfinished, Stuck}
 use Rattle.built_values.specs.Runs.{Report}
-use Rattle.machine_meaning.specs.declared.code.Code.{Code}
-use Rattle.machine_meaning.specs.Steps.{Look}
-use Rattle.machine_meaning.specs.Runs.{MachineRun}
+use Rattle.built_machine.specs.declared.code.Code.{Code}
+use Rattle.built_machine.specs.Steps.{Look}
+use Rattle.built_machine.specs.Runs.{MachineRun}
 use Rattle.emit_stat.specs.Correct.{Behaves}
 use Rattle.luau_vm.specs.declared.running.Ran.{Ran}
 use Rattle.luau_vm.specs.Shown.{Shows, line_of, lines_of}

@@ -8,8 +8,8 @@ use Rattle.syntax_tree.specs.declared.tree.Tree.{Tree}
 use Rattle.built_values.specs.declared.end.End.{End}
 use Rattle.built_values.specs.declared.end.End.TheVariants.{Ended, Stopped, Unfinished}
 use Rattle.built_values.specs.Runs.{Report}
-use Rattle.source_meaning.specs.Steps.{Look}
-use Rattle.source_meaning.specs.Runs.{SourceRun}
+use Rattle.built_source.specs.Steps.{Look}
+use Rattle.built_source.specs.Runs.{SourceRun}
 use Rattle.luau_vm.specs.Shown.{line_of, lines_of}
 use Rattle.luau_cli.specs.Command.{RunFile}
 use Rattle.luau_cli.specs.declared.refusal.ScriptErr.{ScriptErr}

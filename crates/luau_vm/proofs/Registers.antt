@@ -5,7 +5,7 @@ use Rattle.std.proofs.lemmas.List.{get_or-replicate, get_or_past}
 use Rattle.std.proofs.lemmas.Bool.{cases_lt}
 use mathlib.Core.Path.{fun_ext}
 use Rattle.built_values.specs.declared.value.Value.TheVariants.{Nil}
-use Rattle.machine_meaning.specs.States.{start}
+use Rattle.built_machine.specs.States.{start}
 use Rattle.luau_vm.specs.Moves.{registers_of}
 
 pub registers_start : registers_of (replicate 256 Nil) ≡ start.registers

@@ -8,11 +8,11 @@ use Rattle.built_values.specs.declared.end.End.{End}
 use Rattle.built_values.specs.declared.end.End.TheVariants.{Stuck, Unfinished}
 use Rattle.built_values.specs.Runs.{Stamped, Report, Goes, Shows, Charges, Ends, after, run}
 use Rattle.built_values.proofs.Together.{Comes}
-use Rattle.machine_meaning.specs.declared.code.Constant.{Constant}
-use Rattle.machine_meaning.specs.States.{State, start}
-use Rattle.machine_meaning.specs.Steps.{Look, Step, row, act, step}
-use Rattle.machine_meaning.specs.Runs.{MachineRun}
-use Rattle.machine_meaning.proofs.Onward.{LeadsOn, row_on}
+use Rattle.built_machine.specs.declared.code.Constant.{Constant}
+use Rattle.built_machine.specs.States.{State, start}
+use Rattle.built_machine.specs.Steps.{Look, Step, row, act, step}
+use Rattle.built_machine.specs.Runs.{MachineRun}
+use Rattle.built_machine.proofs.Onward.{LeadsOn, row_on}
 use Rattle.luau_vm.specs.declared.machine.Machine.{Machine}
 use Rattle.luau_vm.specs.declared.machine.Moved.TheVariants as moved
 use Rattle.luau_vm.specs.declared.running.Ran.{Ran}

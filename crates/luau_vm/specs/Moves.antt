@@ -3,8 +3,8 @@ use Rattle.std.specs.Prelude.{◌≡◌, ℕ, List, ◌++◌, slice_index_or}
 use Rattle.built_values.specs.declared.value.Value.{Value}
 use Rattle.built_values.specs.declared.value.Value.TheVariants.{Nil}
 use Rattle.built_values.specs.Runs.{Goes, Shows, Charges, Ends}
-use Rattle.machine_meaning.specs.States.{Registers}
-use Rattle.machine_meaning.specs.Steps.{Step}
+use Rattle.built_machine.specs.States.{Registers}
+use Rattle.built_machine.specs.Steps.{Step}
 use Rattle.luau_vm.specs.declared.machine.Machine.{Machine}
 use Rattle.luau_vm.specs.declared.machine.Moved.{Moved}
 use Rattle.luau_vm.specs.declared.machine.Moved.TheVariants as moved

@@ -2,7 +2,7 @@
 use Rattle.std.specs.Prelude.{◌≡◌, ℕ, List, [], ◌∷◌, ◌++◌}
 use Rattle.std.specs.List.{flat_map}
 use Rattle.built_values.specs.Runs.{Stamped, Report}
-use Rattle.machine_meaning.specs.Steps.{Look}
+use Rattle.built_machine.specs.Steps.{Look}
 use Rattle.luau_vm.specs.declared.running.Ran.{Ran}
 
 -- a text, and the line feed behind it

@@ -2,14 +2,14 @@
 
 ghost use Rattle.std.specs.Prelude.{◌≡◌, IfOk, ℕ, List};
 ghost use Rattle.built_values.specs.Runs.{Report};
-ghost use Rattle.machine_meaning.specs.Steps.{Look};
-ghost use Rattle.machine_meaning.specs.Runs.{MachineRun};
+ghost use Rattle.built_machine.specs.Steps.{Look};
+ghost use Rattle.built_machine.specs.Runs.{MachineRun};
 ghost use Rattle.luau_vm.specs.Shown.{Shows};
 
 use crate::instructions::Instructions;
 use crate::machine::{Here, Machine, Moved};
 use built_values::End;
-use machine_meaning::Code;
+use built_machine::Code;
 use resource::OutOfMemory;
 use std::alloc::Global;
 

@@ -1,6 +1,6 @@
 use Rattle.std.proofs.Common.{◌≡◌, ◌<◌, ◌≤◌, ◌-◌, length, Some, None, rules, arith, sym, subst}
 use Rattle.op_words.specs.Decoding.{insn_at, StandsAt}
-use Rattle.machine_meaning.specs.Steps.{row}
+use Rattle.built_machine.specs.Steps.{row}
 use Rattle.luau_vm.specs.declared.machine.Moved.TheVariants as moved
 use Rattle.luau_vm.specs.Moves.{registers_of, Makes}
 use Rattle.luau_vm.proofs.Turns.{Gives, starts, goes_on, charges, spends, ends, sticks, leads_on}

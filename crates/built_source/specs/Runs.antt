@@ -2,8 +2,8 @@
 use Rattle.std.specs.Prelude.{ℕ, List, []}
 use Rattle.syntax_tree.specs.declared.tree.Stat.{Stat}
 use Rattle.built_values.specs.Runs.{Report, Reports}
-use Rattle.source_meaning.specs.States.{State, ExecuteAll}
-use Rattle.source_meaning.specs.Steps.{Look, step}
+use Rattle.built_source.specs.States.{State, ExecuteAll}
+use Rattle.built_source.specs.Steps.{Look, step}
 
 -- the start of a script: no variable, no cell
 abbrev pub start : List Stat → State

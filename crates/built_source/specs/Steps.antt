@@ -15,8 +15,8 @@ use Rattle.built_values.specs.declared.end.End.TheVariants.{Ended, Stopped, Stuc
 use Rattle.built_values.specs.Runs.{Move, Goes, Shows, Charges, Ends}
 use Rattle.built_values.specs.Operations.{Outcome, sum, difference, product, equal, less, less_or_equal, is_true, printed}
 use Rattle.built_values.specs.Globals.{global}
-use Rattle.source_meaning.specs.Levels.{ExprLevel, StatLevel}
-use Rattle.source_meaning.specs.States.{Environment, cell_of, Frame, LeftOperand, RightOperand, Callee, Argument, Discards, Declares, Assigns, Chooses, Loops, Repeats, Continues, Restores, Focus, Evaluate, Give, Execute, ExecuteAll, Choose, Done, State}
+use Rattle.built_source.specs.Levels.{ExprLevel, StatLevel}
+use Rattle.built_source.specs.States.{Environment, cell_of, Frame, LeftOperand, RightOperand, Callee, Argument, Discards, Declares, Assigns, Chooses, Loops, Repeats, Continues, Restores, Focus, Evaluate, Give, Execute, ExecuteAll, Choose, Done, State}
 
 -- a table that is asked: by which node, and whether the running function's environment is safe. No node of this form asks one
 pub record Look : Type 0 where

@@ -2,8 +2,8 @@
 use Rattle.std.specs.Prelude.{◌≡◌, ℕ, List}
 use Rattle.syntax_tree.specs.declared.tree.Stat.{Stat}
 use Rattle.built_values.specs.Runs.{Report}
-use Rattle.source_meaning.specs.Steps.{Look}
-use Rattle.source_meaning.specs.Runs.{SourceRun}
+use Rattle.built_source.specs.Steps.{Look}
+use Rattle.built_source.specs.Runs.{SourceRun}
 
 -- a run has at most one report
 abbrev pub RunsHaveOneReport : Type 0

@@ -1,6 +1,6 @@
 //! Laws of the meaning.
 
-ghost use Rattle.machine_meaning.specs.Laws.{RunsHaveOneReport, RunsHaveReports};
+ghost use Rattle.built_machine.specs.Laws.{RunsHaveOneReport, RunsHaveReports};
 
 /// A run of code, with a bound on its turns, has at most one report.
 pub fn one_report()

@@ -1,9 +1,9 @@
 -- What holds of every run of code.
 use Rattle.std.specs.Prelude.{◌≡◌, ℕ, List}
 use Rattle.built_values.specs.Runs.{Report}
-use Rattle.machine_meaning.specs.declared.code.Constant.{Constant}
-use Rattle.machine_meaning.specs.Steps.{Look}
-use Rattle.machine_meaning.specs.Runs.{MachineRun}
+use Rattle.built_machine.specs.declared.code.Constant.{Constant}
+use Rattle.built_machine.specs.Steps.{Look}
+use Rattle.built_machine.specs.Runs.{MachineRun}
 
 -- a run has at most one report
 abbrev pub RunsHaveOneReport : Type 0

@@ -10,10 +10,10 @@ use Rattle.built_values.specs.declared.value.Value.TheVariants as value
 use Rattle.built_values.specs.declared.end.End.TheVariants.{Stuck}
 use Rattle.built_values.specs.Runs.{Goes, Shows, Charges, Ends}
 use Rattle.built_values.specs.Operations.{Outcome}
-use Rattle.machine_meaning.specs.declared.code.Constant.{Constant}
-use Rattle.machine_meaning.specs.declared.code.Constant.TheVariants as constant
-use Rattle.machine_meaning.specs.States.{Registers, State}
-use Rattle.machine_meaning.specs.Steps.{Step, load, fetch, give, shows, call, leave, jump, charge, chosen, branch, row, act, step}
+use Rattle.built_machine.specs.declared.code.Constant.{Constant}
+use Rattle.built_machine.specs.declared.code.Constant.TheVariants as constant
+use Rattle.built_machine.specs.States.{Registers, State}
+use Rattle.built_machine.specs.Steps.{Step, load, fetch, give, shows, call, leave, jump, charge, chosen, branch, row, act, step}
 
 abbrev pub LeadsOn : ℕ → Step → Type 0
 LeadsOn place (Goes ns s) = place < s.place

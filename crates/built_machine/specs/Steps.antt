@@ -9,9 +9,9 @@ use Rattle.built_values.specs.declared.end.End.TheVariants.{Ended, Stopped, Stuc
 use Rattle.built_values.specs.Runs.{Move, Goes, Shows, Charges, Ends}
 use Rattle.built_values.specs.Operations.{Outcome, sum, difference, product, equal, less, less_or_equal, printed}
 use Rattle.built_values.specs.Globals.{global}
-use Rattle.machine_meaning.specs.declared.code.Constant.{Constant}
-use Rattle.machine_meaning.specs.declared.code.Constant.TheVariants as constant
-use Rattle.machine_meaning.specs.States.{Registers, put, State}
+use Rattle.built_machine.specs.declared.code.Constant.{Constant}
+use Rattle.built_machine.specs.declared.code.Constant.TheVariants as constant
+use Rattle.built_machine.specs.States.{Registers, put, State}
 
 -- a table that is asked. No instruction of these asks one
 pub data Look : Type 0 where

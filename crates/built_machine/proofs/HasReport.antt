@@ -3,11 +3,11 @@ use Rattle.std.proofs.Common.{◌≡◌, refl, ap, ◌∙◌, ℕ, zero, suc, �
 use Rattle.built_values.specs.declared.end.End.TheVariants.{Stuck, Unfinished}
 use Rattle.built_values.specs.Runs.{Stamped, Report, Goes, Shows, Charges, Ends, after, run}
 use Rattle.built_values.proofs.Together.{Comes, comes_by}
-use Rattle.machine_meaning.specs.declared.code.Constant.{Constant}
-use Rattle.machine_meaning.specs.States.{State, start}
-use Rattle.machine_meaning.specs.Steps.{Look, Step, step}
-use Rattle.machine_meaning.specs.Laws.{RunsHaveReports}
-use Rattle.machine_meaning.proofs.Onward.{LeadsOn, step_on, sticks_behind}
+use Rattle.built_machine.specs.declared.code.Constant.{Constant}
+use Rattle.built_machine.specs.States.{State, start}
+use Rattle.built_machine.specs.Steps.{Look, Step, step}
+use Rattle.built_machine.specs.Laws.{RunsHaveReports}
+use Rattle.built_machine.proofs.Onward.{LeadsOn, step_on, sticks_behind}
 
 module _ (words : List ℕ) (ks : List Constant) where
   -- with so many turns left the rest of the run has a report, whatever was spent and shown before
