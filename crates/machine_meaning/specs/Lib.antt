@@ -1,0 +1,12 @@
+pub mod Chunks
+pub mod Constants
+pub mod States
+pub mod Moves
+pub mod Calls
+pub mod Effects
+pub mod Instructions
+pub mod Steps
+pub mod Runs
+pub mod Needs
+pub mod WellFormed
+pub mod Laws

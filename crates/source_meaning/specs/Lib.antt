@@ -1,0 +1,10 @@
+pub mod Levels
+pub mod States
+pub mod Moves
+pub mod Calls
+pub mod Expressions
+pub mod Statements
+pub mod Frames
+pub mod Steps
+pub mod Runs
+pub mod Laws
