@@ -1,5 +1,5 @@
 -- The places of labels, and the words made, as far as a loop over the items has come.
-use Rattle.std.proofs.Common.{◌≡◌, refl, sym, ap, ◌∙◌, subst, ℕ, suc, add-one, ◌+◌, ◌<◌, ◌≤◌, ℤ, Bool, true, false, List, [], ◌∷◌, ◌++◌, length, drop, drop-cons, get_or, Option, Some, None, arith, nat_eq, append_assoc, length-append, if◌then◌else◌}
+use Rattle.std.proofs.Common.{◌≡◌, refl, sym, ap, ◌∙◌, subst, ℕ, suc, add-one, ◌+◌, ◌<◌, ℤ, Bool, true, false, List, [], ◌∷◌, ◌++◌, length, drop, drop-cons, get_or, Option, Some, None, arith, nat_eq, append_assoc, length-append, if◌then◌else◌, ◌^◌}
 use Rattle.std.specs.Prelude.{unwrap_or}
 use Rattle.std.specs.List.{AllByRecursion, IsDistinct}
 use Rattle.std.specs.Option.{option_or}
@@ -71,7 +71,7 @@ length-jumping i by = refl
 -- the words of the items passed, with those of the rest, are those of all
 pub record Makes (place : ℕ → Option ℕ) (items rest : List Item) (code : List ℕ) : Type 0 where
   pub jumps : AreJumps place rest
-  pub room : length code + word_count rest ≤ 30000
+  pub room : length code + word_count rest < 2 ^ 15
   pub all : code ++ linked place (length code) rest ≡ linked place 0 items
 
 made_more : (place : ℕ → Option ℕ) (rest : List Item) (code more : List ℕ) → (code ++ more) ++ linked place (length (code ++ more)) rest ≡ code ++ (more ++ linked place (length code + length more) rest)

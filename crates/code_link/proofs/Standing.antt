@@ -1,5 +1,5 @@
 -- The words made are the items', each in its place.
-use Rattle.std.proofs.Common.{◌≡◌, refl, sym, ap, ◌∙◌, subst, ℕ, ◌+◌, ◌≤◌, pos, ◌+ℤ◌, Bool, true, false, List, [], ◌∷◌, ◌++◌, length, drop, Option, Some, None, arith, rules, nat_eq, append_assoc, append-nil, length-append, if◌then◌else◌, IsSome}
+use Rattle.std.proofs.Common.{◌≡◌, refl, sym, ap, ◌∙◌, subst, ℕ, ◌+◌, ◌≤◌, pos, ◌+ℤ◌, Bool, true, false, List, [], ◌∷◌, ◌++◌, length, drop, Option, Some, None, arith, rules, nat_eq, append_assoc, append-nil, length-append, if◌then◌else◌, IsSome, ◌<◌, ◌^◌}
 use Rattle.std.specs.Prelude.{unwrap_or, FitsSigned, IsTrue}
 use Rattle.std.specs.Int.{w16}
 use Rattle.std.specs.List.{AllByRecursion, IsDistinct}
@@ -82,13 +82,13 @@ some_value : (o : Option ℕ) → IsSome o → (x : ℕ) × (o ≡ Some x)
 some_value None h = cc
 some_value (Some x) h = (x, refl)
 
-distance_fits : (at to : ℕ) → at ≤ 30000 → to ≤ 30000 → FitsSigned w16 (distance at to)
+distance_fits : (at to : ℕ) → at < 2 ^ 15 → to < 2 ^ 15 → FitsSigned w16 (distance at to)
 distance_fits at to f g = search (rules, arith, ints)
 
 distance_reaches : (at to : ℕ) → pos (at + 1) +ℤ distance at to ≡ pos to
 distance_reaches at to = omega (arith, ints)
 
-jumps_there : (code pre tail : List ℕ) (from : ℕ) (i : Instruction) (place : ℕ → Option ℕ) (l : ℕ) → length pre ≡ from → code ≡ pre ++ (encoded (jumping i (distance from (unwrap_or (place l) 0))) ++ tail) → IsTrue (is_jump i) → IsSome (place l) → ((p : ℕ) → place l ≡ Some p → p ≤ 30000) → from ≤ 30000 → JumpsTo code from i (place l)
+jumps_there : (code pre tail : List ℕ) (from : ℕ) (i : Instruction) (place : ℕ → Option ℕ) (l : ℕ) → length pre ≡ from → code ≡ pre ++ (encoded (jumping i (distance from (unwrap_or (place l) 0))) ++ tail) → IsTrue (is_jump i) → IsSome (place l) → ((p : ℕ) → place l ≡ Some p → p < 2 ^ 15) → from < 2 ^ 15 → JumpsTo code from i (place l)
 jumps_there code pre tail from i place l n e jump some near low =
     let target = some_value (place l) some in
     let to : unwrap_or (place l) 0 ≡ target.0 = ap (λ o. unwrap_or o 0) target.1 in
@@ -104,7 +104,7 @@ jumps_there code pre tail from i place l n e jump some near low =
     }
 
 -- the items stand where their words are made
-pub stands : (place : ℕ → Option ℕ) (is : List Item) (code pre : List ℕ) (from : ℕ) → length pre ≡ from → code ≡ pre ++ linked place from is → Placed place from is → AreJumps place is → ((q p : ℕ) → place q ≡ Some p → p ≤ 30000) → from + word_count is ≤ 30000 → Stands code place from is (length code)
+pub stands : (place : ℕ → Option ℕ) (is : List Item) (code pre : List ℕ) (from : ℕ) → length pre ≡ from → code ≡ pre ++ linked place from is → Placed place from is → AreJumps place is → ((q p : ℕ) → place q ≡ Some p → p < 2 ^ 15) → from + word_count is < 2 ^ 15 → Stands code place from is (length code)
 stands place [] code pre from n e p a near room = sym n ∙ ap length (sym (append-nil pre)) ∙ ap length (sym e)
 stands place (Insn i ∷ is) code pre from n e p a near room =
     (words_there code pre (encoded i) _ from n e, stands place is code (pre ++ encoded i) (from + length (encoded i)) (omega (arith, n, length-append pre (encoded i))) (e ∙ sym (append_assoc pre (encoded i) _)) p a near (omega (arith, room)))
@@ -117,6 +117,6 @@ stands place (Label l ∷ is) code pre from n e p a near room =
 
 pub linked_stands : (items : List Item) (place : ℕ → Option ℕ) (code : List ℕ) → IsLinkable items → ((q : ℕ) → place q ≡ place_in items 0 q) → code ≡ linked place 0 items → IsLinked items code
 linked_stands items place code fit same e =
-    let near : (q p : ℕ) → place_in items 0 q ≡ Some p → p ≤ 30000 = λ q p there. let h = place_in-le items 0 q p there in omega (arith, h, fit.short) in
+    let near : (q p : ℕ) → place_in items 0 q ≡ Some p → p < 2 ^ 15 = λ q p there. let h = place_in-le items 0 q p there in omega (arith, h, fit.short) in
     stands (place_in items 0) items code [] 0 refl (e ∙ linked_same place (place_in items 0) same items 0)
     (placed (place_in items 0) items 0 fit.once (λ q p there. there)) fit.jumps near (omega (arith, fit.short))

@@ -1,5 +1,5 @@
 -- Labels and their places, and what can be linked.
-use Rattle.std.specs.Prelude.{◌≤◌, ℕ, ◌+◌, Bool, true, false, List, [], ◌∷◌, length, Option, Some, None, IsSome, IsTrue, nat_eq, if◌then◌else◌}
+use Rattle.std.specs.Prelude.{◌<◌, ◌^◌, ℕ, ◌+◌, Bool, true, false, List, [], ◌∷◌, length, Option, Some, None, IsSome, IsTrue, nat_eq, if◌then◌else◌}
 use Rattle.std.specs.List.{IsDistinct}
 use Rattle.op_words.specs.declared.insn.Insn.{Insn as Instruction}
 use Rattle.op_words.specs.declared.insn.Insn.TheVariants.{Jump, JumpBack, JumpIfEq, JumpIfLe, JumpIfLt, JumpIfNotEq, JumpIfNotLe, JumpIfNotLt}
@@ -51,4 +51,4 @@ AreJumps place (Label l ∷ is) = AreJumps place is
 pub record IsLinkable (items : List Item) : Type 0 where
   pub once : IsDistinct nat_eq (labels items)
   pub jumps : AreJumps (place_in items 0) items
-  pub short : word_count items ≤ 30000
+  pub short : word_count items < 2 ^ 15

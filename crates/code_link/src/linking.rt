@@ -1,6 +1,6 @@
 //! The places of labels, and the words of the code.
 
-ghost use Rattle.std.specs.Prelude.{◌≡◌, ◌≤◌, ℕ, ◌++◌, nat_eq, Some, IfOk, OnOk};
+ghost use Rattle.std.specs.Prelude.{◌≡◌, ◌<◌, ◌^◌, ◌≤◌, ℕ, ◌++◌, nat_eq, Some, IfOk, OnOk};
 ghost use Rattle.std.specs.List.{IsDistinct};
 ghost use Rattle.std.specs.HashMap as hash;
 ghost use Rattle.op_words.specs.Encoding.{encoded};
@@ -26,7 +26,7 @@ pub fn link(alloc: Global, code: Labelled) -> Result<Linked, OutOfMemory>
 
 fn places_of(alloc: Global, items: &[Item]) -> Result<HashMap<usize, usize>, OutOfMemory>
     requires once { IsDistinct nat_eq (labels items.now) }
-    requires short { word_count items.now ≤ 30000 }
+    requires short { word_count items.now < 2 ^ 15 }
     ensures { IfOk result
         (λ places. (label : ℕ) → hash.get nat_eq places label ≡ place_in items.now 0 label) }
 {
@@ -49,8 +49,8 @@ fn resolve(
     places: &HashMap<usize, usize>,
 ) -> Result<Vec<u32>, OutOfMemory>
     requires jumps { AreJumps (hash.get nat_eq places.now) items.now }
-    requires short { word_count items.now ≤ 30000 }
-    requires near { (label place : ℕ) → hash.get nat_eq places.now label ≡ Some place → place ≤ 30000 }
+    requires short { word_count items.now < 2 ^ 15 }
+    requires near { (label place : ℕ) → hash.get nat_eq places.now label ≡ Some place → place < 2 ^ 15 }
     ensures { IfOk result (λ code. code.items ≡ linked (hash.get nat_eq places.now) 0 items.now) }
 {
     let mut code = Vec::new(alloc);
@@ -80,8 +80,8 @@ fn push_words(code: &mut Vec<u32>, insn: &Insn) -> Result<(), OutOfMemory>
 }
 
 fn distance(at: usize, to: usize) -> i16
-    requires at { at ≤ 30000 }
-    requires to { to ≤ 30000 }
+    requires at { at < 2 ^ 15 }
+    requires to { to < 2 ^ 15 }
     ensures { result ≡ distance at to }
 {
     (to as i32 - at as i32 - 1) as i16

@@ -115,5 +115,5 @@ pub linkable : (n : ℕ) (is : List Item) → HasLabels 0 n is → word_count is
 linkable n is h short = record {
   once = once is (λ l. omega (arith, h.placed l, below_one n l));
   jumps = are_jumps n (place_in is 0) is (λ l lt. has_place is 0 l (omega (arith, h.placed l, below_zero l, is_below n l lt))) h.branches;
-  short = short;
+  short = omega (arith, short);
 }

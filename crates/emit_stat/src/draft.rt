@@ -5,8 +5,8 @@ ghost use Rattle.code_link.specs.Labels.{word_count};
 ghost use Rattle.emit_stat.specs.Emitted.{Appends};
 ghost use Rattle.emit_stat.specs.Fits.{AllFit};
 
-use code_link::Item;
 use built_machine::Constant;
+use code_link::Item;
 use resource::OutOfMemory;
 use whole_num::Whole;
 

@@ -12,9 +12,9 @@ ghost use Rattle.luau_vm.specs.Moves.{registers_of, Makes};
 
 use crate::operations::{difference, equal, less, less_or_equal, product, sum};
 use crate::running::Ran;
+use built_machine::Constant;
 use built_values::{End, Value};
 use byte_text::StrId;
-use built_machine::Constant;
 use op_words::Insn;
 use resource::OutOfMemory;
 use std::alloc::Global;

@@ -8,8 +8,8 @@ ghost use Rattle.luau_vm.specs.Shown.{Shows};
 
 use crate::instructions::Instructions;
 use crate::machine::{Here, Machine, Moved};
-use built_values::End;
 use built_machine::Code;
+use built_values::End;
 use resource::OutOfMemory;
 use std::alloc::Global;
 

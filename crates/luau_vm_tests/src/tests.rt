@@ -1,7 +1,7 @@
+use built_machine::{Code, Constant};
 use built_values::End;
 use byte_text::StrId;
 use luau_vm::{Ran, run};
-use built_machine::{Code, Constant};
 use std::alloc::Global;
 use std::test::Fail;
 use whole_num::{Stop, Whole};
