@@ -1,0 +1,6 @@
+pub mod Searching
+pub mod Closing
+pub mod Capturing
+pub mod Live
+pub mod Keeping
+pub mod Innermost

@@ -1,0 +1,5 @@
+mod Decoding
+mod Ends
+mod First
+mod Folds
+mod Words

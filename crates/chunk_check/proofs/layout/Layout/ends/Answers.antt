@@ -1,0 +1,7 @@
+use Rattle.std.proofs.lemmas.Grind.{common_steps}
+use Rattle.std.proofs.Common.{arith}
+use Rattle.chunk_check.proofs.Words.{outside_ends}
+use Rattle.chunk_check.proofs.layout.Layout.ends.Goals as goal
+
+pub returns-in-None : goal.returns-in-None
+returns-in-None c = grind (arith, common_steps, outside_ends)

@@ -1,0 +1,5 @@
+//! The tests of `chunk_check`.
+#![tactic(auto)]
+
+#[cfg(test)]
+mod tests;

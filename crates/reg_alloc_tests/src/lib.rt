@@ -1,0 +1,5 @@
+//! The tests of `reg_alloc`.
+#![tactic(auto)]
+
+#[cfg(test)]
+mod tests;
