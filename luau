@@ -8,42 +8,60 @@ is_stale() {
     [ ! -x "$program" ] || [ -n "$(find "$here/crates" "$here/crates.txt" -name out -prune -o -type f -newer "$program" -print | head -n 1)" ]
 }
 
-# The lines of crates.txt of the program's crate and of those that it stands on.
-needed() {
-    awk '
-        /^[a-z]/ { line[$1] = $0 }
-        END {
-            wanted[n = 1] = "luau_cli:"
-            for (i = 1; i <= n; i++) {
-                if (!(wanted[i] in line)) continue
-                print line[wanted[i]]
-                count = split(line[wanted[i]], word, " ")
-                for (j = 2; j <= count; j++) if (!(word[j] in seen)) { seen[word[j]] = 1; wanted[++n] = word[j] ":" }
-            }
-        }' "$here/crates.txt"
+# A copy of the crates without what was built.
+copy_crates() {
+    mkdir -p "$1/crates" && cp "$here/crates.txt" "$here/HANDLES" "$1" || return 1
+    for crate in "$here"/crates/*; do
+        mkdir "$1/crates/${crate##*/}" || return 1
+        for part in src specs proofs; do
+            [ ! -d "$crate/$part" ] || cp -R "$crate/$part" "$1/crates/${crate##*/}" || return 1
+        done
+    done
 }
 
-# The program is proved and compiled in a copy of these crates, as many side by side as there are processors.
+# Proves crates one after another, each with those below it that are not proved yet, and notes each that is done.
+prove() {
+    for crate; do
+        (cd "crates/$crate" && rt lib) && : >"../done/$crate" || return 1
+    done
+}
+
+# Waits until the other chain has proved a crate, or has failed.
+await() {
+    while [ ! -e "../done/$1" ]; do
+        [ ! -e ../done/failed ] || return 1
+        sleep 1
+    done
+}
+
+# Two chains of proofs side by side, each in a copy of its own, since runs in one copy wait for one another. What the one has proved
+# the other takes over. The longest way leads through the syntax tree and the parser.
+first_chain() {
+    prove whole_num byte_text syntax_tree expression_parser && await node_numbers && prove luau_parser && await emit_stat \
+        && (cd crates/luau_cli && rt run -- run /dev/null)
+}
+
+second_chain() {
+    prove outside_io && await byte_text && prove luau_vm code_link && await syntax_tree \
+        && prove node_numbers luau_lexer scopes emit_stat
+}
+
 build() {
-    needed >"$1/crates.txt" && cp "$here/HANDLES" "$1" && mkdir "$1/crates" || return 1
-    sed 's/:.*//' "$1/crates.txt" | while read -r crate; do
-        mkdir "$1/crates/$crate" || exit 1
-        for part in src specs proofs; do
-            [ ! -d "$here/crates/$crate/$part" ] || cp -R "$here/crates/$crate/$part" "$1/crates/$crate" || exit 1
-        done
-    done || return 1
-    (cd "$1" && rt all check --jobs "$(getconf _NPROCESSORS_ONLN)") || return 1
-    (cd "$1/crates/luau_cli" && rt run -- run /dev/null) || return 1
-    mkdir -p "$here/out" && cp "$1/crates/luau_cli/out/luau_cli" "$program"
+    copy_crates "$1/first" && copy_crates "$1/second" && mkdir "$1/done" || return 1
+    (cd "$1/second" && second_chain || : >../done/failed) &
+    (cd "$1/first" && first_chain || : >../done/failed)
+    wait
+    [ ! -e "$1/done/failed" ] && mkdir -p "$here/out" && cp "$1/first/crates/luau_cli/out/luau_cli" "$program"
 }
 
 if is_stale; then
     command -v rt >/dev/null || { echo "luau: the program is not built, and the kit's command rt is not on the path" >&2; exit 70; }
-    echo "luau: proving and building the program; from nothing this takes a quarter of an hour" >&2
-    copy=$(mktemp -d) || exit 70
-    build "$copy" >&2 </dev/null
+    echo "luau: proving and building the program; from nothing this takes a quarter of an hour and more" >&2
+    copies=$(mktemp -d) || exit 70
+    trap 'rm -rf "$copies"; exit 70' INT TERM
+    build "$copies" >&2 </dev/null
     built=$?
-    rm -rf "$copy"
+    rm -rf "$copies"
     [ "$built" = 0 ] || { echo "luau: the program was not built" >&2; exit 70; }
 fi
 exec "$program" "$@"
