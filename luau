@@ -37,13 +37,13 @@ await() {
 # Two chains of proofs side by side, each in a copy of its own, since runs in one copy wait for one another. What the one has proved
 # the other takes over. The longest way leads through the syntax tree and the parser.
 first_chain() {
-    prove whole_num byte_text syntax_tree expression_parser && await node_numbers && prove luau_parser && await emit_stat \
+    prove whole_num byte_text syntax_tree expression_parser && await node_numbers && prove luau_parser && await built_emitter \
         && (cd crates/luau_cli && rt run -- run /dev/null)
 }
 
 second_chain() {
-    prove outside_io && await byte_text && prove luau_vm code_link && await syntax_tree \
-        && prove node_numbers luau_lexer scopes emit_stat
+    prove outside_io && await byte_text && prove built_vm code_link && await syntax_tree \
+        && prove node_numbers luau_lexer scopes built_emitter
 }
 
 build() {

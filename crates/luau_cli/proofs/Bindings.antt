@@ -11,7 +11,7 @@ use Rattle.syntax_tree.specs.Bound.{bound}
 use Rattle.syntax_tree.specs.Derivations.{main_function}
 use Rattle.syntax_tree.specs.Numbers.{numbered}
 use Rattle.syntax_tree.specs.Parsed.{IsParsed}
-use Rattle.emit_stat.specs.Standing.{IsBound}
+use Rattle.built_emitter.specs.Standing.{IsBound}
 
 -- numbers change no parameters
 no_parameters : (block : List Stat) → (out-FuncBody (numbered (main_function block)).main).params ≡ []

@@ -9,9 +9,9 @@ use Rattle.built_values.specs.Runs.{Report}
 use Rattle.built_machine.specs.declared.code.Code.{Code}
 use Rattle.built_machine.specs.Steps.{Look}
 use Rattle.built_machine.specs.Runs.{MachineRun}
-use Rattle.emit_stat.specs.Correct.{Behaves}
-use Rattle.luau_vm.specs.declared.running.Ran.{Ran}
-use Rattle.luau_vm.specs.Shown.{Shows, line_of, lines_of}
+use Rattle.built_emitter.specs.Correct.{Behaves}
+use Rattle.built_vm.specs.declared.running.Ran.{Ran}
+use Rattle.built_vm.specs.Shown.{Shows, line_of, lines_of}
 use Rattle.luau_cli.specs.declared.reply.Reply.{Reply}
 use Rattle.luau_cli.specs.Answer.{refusal, refused_text, IsReported, AnswersScript, refused, runs}
 use Rattle.luau_cli.specs.declared.refusal.ScriptErr.{ScriptErr}

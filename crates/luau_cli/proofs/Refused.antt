@@ -12,7 +12,7 @@ use Rattle.syntax_tree.specs.Tokens.{HasTokens}
 use Rattle.luau_lexer.proofs.OneTokenList.{one_list, tokens_or_fault}
 use Rattle.syntax_tree.specs.Parsed.{IsParsed, HasRefusal}
 use Rattle.luau_parser.proofs.Answering.{same_tree as once, parsed_or_refused}
-use Rattle.emit_stat.specs.Unbuilt.{first_unbuilt}
+use Rattle.built_emitter.specs.Unbuilt.{first_unbuilt}
 use Rattle.luau_cli.specs.declared.refusal.ScriptErr.{ScriptErr}
 use Rattle.luau_cli.specs.declared.refusal.ScriptErr.TheVariants as error
 use Rattle.luau_cli.specs.Refusals.{statements, IsScript, IsRefused}

@@ -12,7 +12,7 @@ use Rattle.outside_io.specs.declared.reading.ReadErr.TheVariants.{Missing, ReadF
 use Rattle.outside_io.specs.declared.writing.WriteErr.{WriteErr}
 use Rattle.syntax_tree.specs.declared.tree.Tree.{Tree}
 use Rattle.built_values.specs.declared.end.End.{End}
-use Rattle.luau_vm.specs.Shown.{line_of}
+use Rattle.built_vm.specs.Shown.{line_of}
 use Rattle.luau_cli.specs.Command.{RunFile}
 use Rattle.luau_cli.specs.Answer.{Answer, refusal, usage, size_limit, told_of, IsThere, IsTooLarge, HasRun, IsReported, AnswersScript, AnswersFile, Answers, RunsScript}
 use Rattle.luau_cli.specs.Answer as answer

@@ -10,7 +10,7 @@ use Rattle.built_values.specs.declared.end.End.TheVariants.{Ended, Stopped, Unfi
 use Rattle.built_values.specs.Runs.{Report}
 use Rattle.built_source.specs.Steps.{Look}
 use Rattle.built_source.specs.Runs.{SourceRun}
-use Rattle.luau_vm.specs.Shown.{line_of, lines_of}
+use Rattle.built_vm.specs.Shown.{line_of, lines_of}
 use Rattle.luau_cli.specs.Command.{RunFile}
 use Rattle.luau_cli.specs.declared.refusal.ScriptErr.{ScriptErr}
 use Rattle.luau_cli.specs.Refusals.{statements, IsScript, IsRefused, error_text}

@@ -7,10 +7,10 @@ use Rattle.syntax_tree.specs.declared.tree.Tree.{Tree}
 use Rattle.syntax_tree.specs.Accepts.{Accepts, Refuses}
 use Rattle.syntax_tree.specs.Bound.{bound}
 use Rattle.syntax_tree.specs.Causes.{refusal_text}
-use Rattle.emit_stat.specs.Form.{IsBlock}
-use Rattle.emit_stat.specs.Size.{most_words, block_words}
-use Rattle.emit_stat.specs.Standing.{IsBound}
-use Rattle.emit_stat.specs.Unbuilt.{first_unbuilt}
+use Rattle.built_emitter.specs.Form.{IsBlock}
+use Rattle.built_emitter.specs.Size.{most_words, block_words}
+use Rattle.built_emitter.specs.Standing.{IsBound}
+use Rattle.built_emitter.specs.Unbuilt.{first_unbuilt}
 use Rattle.luau_cli.specs.declared.refusal.ScriptErr.{ScriptErr}
 use Rattle.luau_cli.specs.declared.refusal.ScriptErr.TheVariants as error
 use Rattle.luau_cli.specs.declared.script.Reading.{Reading}

@@ -2,16 +2,16 @@
 
 ghost use Rattle.std.specs.Prelude.{◌≡◌, ℕ, List, IfOk};
 ghost use Rattle.built_values.specs.declared.end.End.{End};
-ghost use Rattle.luau_vm.specs.Shown.{line_of};
+ghost use Rattle.built_vm.specs.Shown.{line_of};
 ghost use Rattle.luau_cli.specs.Answer.{refusal, refused_text, AnswersScript, IsProper, IsReported};
 ghost use Rattle.luau_cli.specs.Making.{answer_of};
 
 use crate::refusal::ScriptErr;
 use crate::reply::{Reply, SPENT, line};
 use crate::script::{Reading, read_script};
+use built_emitter::compile;
 use built_values::End;
-use emit_stat::compile;
-use luau_vm::{Ran, run};
+use built_vm::{Ran, run};
 use resource::OutOfMemory;
 use std::alloc::Global;
 

@@ -1,7 +1,7 @@
 //! Answers: what is written, and with which status the program ends.
 
 ghost use Rattle.std.specs.Prelude.{◌≡◌, ◌⊎◌, ◌↔◌, ◌++◌, [], IfOk, IsTrue};
-ghost use Rattle.luau_vm.specs.Shown.{line_of};
+ghost use Rattle.built_vm.specs.Shown.{line_of};
 ghost use Rattle.luau_cli.specs.Answer.{refusal, HasRun, HasRefused};
 ghost use Rattle.luau_cli.specs.Delivery.{Delivers, change};
 ghost use Rattle.luau_cli.specs.Making.{answer_of};

@@ -7,8 +7,8 @@ ghost use Rattle.luau_cli.specs.declared.script.Reading.TheVariants as reading;
 ghost use Rattle.luau_cli.specs.Refusals.{IsReadingOf, IsCompilable};
 
 use crate::refusal::ScriptErr;
+use built_emitter::first_unbuilt;
 use byte_text::Interner;
-use emit_stat::first_unbuilt;
 use luau_lexer::lex;
 use luau_parser::parse;
 use resource::OutOfMemory;

@@ -2,7 +2,7 @@ use Rattle.std.proofs.Common.{◌∙◌, sym, ap, subst}
 use Rattle.luau_lexer.proofs.OneTokenList.{lexed}
 use Rattle.syntax_tree.specs.Parsed.{IsParsed}
 use Rattle.luau_parser.specs.Refusals.{IsRefusal}
-use Rattle.emit_stat.specs.Unbuilt.{first_unbuilt}
+use Rattle.built_emitter.specs.Unbuilt.{first_unbuilt}
 use Rattle.luau_cli.specs.Refusals.{statements}
 use Rattle.luau_cli.proofs.Bindings.{parsed_bound}
 use Rattle.luau_cli.proofs.Readings.{refused_reading, without_tokens, without_tree, with_fault}

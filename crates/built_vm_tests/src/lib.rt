@@ -1,0 +1,5 @@
+//! The tests of `built_vm`.
+#![tactic(auto)]
+
+#[cfg(test)]
+mod tests;

@@ -1,5 +1,0 @@
-//! The tests of `luau_vm`.
-#![tactic(auto)]
-
-#[cfg(test)]
-mod tests;
