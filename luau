@@ -26,7 +26,7 @@ prove() {
     done
 }
 
-# Waits until the other chain has proved a crate, or has failed.
+# Waits until another chain has proved a crate, or one has failed.
 await() {
     while [ ! -e "../done/$1" ]; do
         [ ! -e ../done/failed ] || return 1
@@ -34,22 +34,31 @@ await() {
     done
 }
 
-# Two chains of proofs side by side, each in a copy of its own, since runs in one copy wait for one another. What the one has proved
-# the other takes over. The longest way leads through the syntax tree and the parser.
+# Three chains of proofs side by side, each in a copy of its own, since runs in one copy wait for one another. What the one has proved
+# the others take over. The longest way leads through the syntax tree and the parser.
 first_chain() {
-    prove whole_num byte_text syntax_tree expression_parser && await node_numbers && prove luau_parser && await built_emitter \
-        && (cd crates/luau_cli && rt run -- run /dev/null)
+    prove whole_num byte_text syntax_tree expression_parser && await node_numbers && prove luau_parser \
+        && await scopes && await built_emitter && (cd crates/luau_cli && rt run -- run /dev/null)
 }
 
 second_chain() {
-    prove outside_io && await byte_text && prove built_vm code_link && await syntax_tree \
-        && prove node_numbers luau_lexer scopes built_emitter
+    prove outside_io && await syntax_tree && prove node_numbers luau_lexer scopes
+}
+
+third_chain() {
+    await byte_text && prove built_vm code_link && await syntax_tree && prove built_emitter
+}
+
+# Runs a chain in a copy of its own.
+in_copy() {
+    (cd "$1/$2" && "$2_chain" || : >../done/failed)
 }
 
 build() {
-    copy_crates "$1/first" && copy_crates "$1/second" && mkdir "$1/done" || return 1
-    (cd "$1/second" && second_chain || : >../done/failed) &
-    (cd "$1/first" && first_chain || : >../done/failed)
+    mkdir "$1/done" && copy_crates "$1/first" && copy_crates "$1/second" && copy_crates "$1/third" || return 1
+    in_copy "$1" second &
+    in_copy "$1" third &
+    in_copy "$1" first
     wait
     [ ! -e "$1/done/failed" ] && mkdir -p "$here/out" && cp "$1/first/crates/luau_cli/out/luau_cli" "$program"
 }

@@ -4,6 +4,7 @@
 #![tactic(auto)]
 
 mod bindings;
+mod facts;
 mod fault;
 mod form;
 mod laws;
@@ -17,6 +18,7 @@ mod tree;
 mod width;
 
 pub use bindings::{Bindings, Bound, LocalInfo};
+pub use facts::{Constant, Facts};
 pub use fault::{Cause, Refusal, ScopeFault, ScopeRule};
 pub use form::{Form, Opener};
 pub use laws::{fixed_names, proper_nodes};
