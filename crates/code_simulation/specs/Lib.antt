@@ -1,0 +1,4 @@
+pub mod Slots
+pub mod Relation
+pub mod Along
+pub mod Parts
