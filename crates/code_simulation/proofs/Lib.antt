@@ -5,3 +5,5 @@ pub mod Stores
 pub mod Moving
 pub mod Waiting
 pub mod Registers
+pub mod Operations
+pub mod Values

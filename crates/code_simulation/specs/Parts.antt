@@ -27,6 +27,21 @@ pub record Forward (place : ℕ) (by : ℤ) (to : ℕ) : Type 0 where
 abbrev pub chosen : Bool → (on_true on_false : ℕ) → ℕ
 chosen b on_true on_false = if b then on_true else on_false
 
+-- How an instruction sees a value: in a register, or as a constant
+abbrev pub Sight : Type 1
+Sight = Registers → Value → Type 0
+
+abbrev pub in_register : ℕ → Sight
+in_register r regs v = regs r ≡ Val v
+
+abbrev pub constant : Value → Sight
+constant c regs v = v ≡ c
+
+-- a value that has a register of its own stands above
+abbrev pub over : Bool → Value → List Slot → List Slot
+over true v l = Temp v ∷ l
+over false v l = l
+
 module _ (p : Setting) (most : ℕ) where
   -- ---- one value
 
@@ -34,21 +49,6 @@ module _ (p : Setting) (most : ℕ) where
   abbrev pub ExprRuns : Expr → Here p most → List Slot → (from to : ℕ) → Type 0
   ExprRuns e h l from to =
       (left : ℕ) → left ≤ most → (k : List source.Frame) (d : Dyn) (file : File) → Has p most h left l d file → WithValue p most h left l file.registers k to → Same p most h left (source.Evaluate e) k l d from file
-
-  -- How an instruction sees a value: in a register, or as a constant
-  abbrev pub Sight : Type 1
-  Sight = Registers → Value → Type 0
-
-  abbrev pub in_register : ℕ → Sight
-  in_register r regs v = regs r ≡ Val v
-
-  abbrev pub constant : Value → Sight
-  constant c regs v = v ≡ c
-
-  -- a value that has a register of its own stands above
-  abbrev pub over : Bool → Value → List Slot → List Slot
-  over true v l = Temp v ∷ l
-  over false v l = l
 
   -- an operand's value is given, which the instruction sees so
   abbrev pub WithOperand : Here p most → ℕ → List Slot → Registers → List source.Frame → (to : ℕ) → (own : Bool) → Sight → Type 0
