@@ -7,3 +7,4 @@ pub mod Waiting
 pub mod Registers
 pub mod Operations
 pub mod Values
+pub mod Operators
