@@ -8,3 +8,4 @@ pub mod Registers
 pub mod Operations
 pub mod Values
 pub mod Operators
+pub mod Conditions
