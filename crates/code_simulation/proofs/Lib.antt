@@ -9,3 +9,5 @@ pub mod Operations
 pub mod Values
 pub mod Operators
 pub mod Conditions
+pub mod Lists
+pub mod Calls
