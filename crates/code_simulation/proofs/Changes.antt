@@ -325,6 +325,11 @@ module _ {p : Setting} {turns co : ℕ} {ws : List Wait} {roots : List Desc} {a 
     alike = w.alike;
   }
 
+-- what was taken stays taken where a cell is opened
+pub opened_keeps : (d : Dyn) (c co depth : ℕ) (v : Value) → d.tag c ≡ Of co depth v → (q k : ℕ) → d.tag q ≡ Taken k → (opens d c v).tag q ≡ Taken k
+opened_keeps d c co depth v own =
+    (keeps_mark {tag = d.tag} c (Taken (length (cells_m d))) (mine_of co depth d.tag c v own)).taken
+
 -- ---- values become variables, in order
 
 -- a value becomes a variable's, also below other values

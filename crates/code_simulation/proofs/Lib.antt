@@ -11,3 +11,4 @@ pub mod Operators
 pub mod Conditions
 pub mod Lists
 pub mod Calls
+pub mod Functions
