@@ -12,3 +12,6 @@ pub mod Conditions
 pub mod Lists
 pub mod Calls
 pub mod Functions
+pub mod Blocks
+pub mod Statements
+pub mod Loops
