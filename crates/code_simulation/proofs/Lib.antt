@@ -15,3 +15,4 @@ pub mod Functions
 pub mod Blocks
 pub mod Statements
 pub mod Loops
+pub mod Entering
