@@ -16,3 +16,4 @@ pub mod Blocks
 pub mod Statements
 pub mod Loops
 pub mod Entering
+pub mod Deciding
