@@ -17,3 +17,4 @@ pub mod Statements
 pub mod Loops
 pub mod Entering
 pub mod Deciding
+pub mod Outside
