@@ -1,12 +1,39 @@
 -- Calls, values that are handed on and errors go along together, whatever waits for them: library functions, protected calls and the
 -- functions of the script. What coroutines do is a premise.
-use Rattle.std.proofs.Common.{◌≡◌, ◌≢◌, ℕ, ◌<◌, List, [], ◌∷◌, length, refl, sym, ap, ◌∙◌, subst, arith}
+use Rattle.std.proofs.Common.{Bool, true, false, not, ◌≡◌, ◌≢◌, ℕ, zero, suc, ◌+◌, ◌<◌, ◌≤◌, List, [], ◌∷◌, ◌++◌, length, Option, Some, None, refl, sym, ap, ◌∙◌, subst, arith, ◌⊎◌, ⊎_elim, inl, inr, length-append}
+use Rattle.std.specs.Prelude.{Result, Ok as Fine, Err, slice_get, slice_set, slice_index_or, replicate, ◌-◌, codes, map, if◌then◌else◌}
 use Rattle.std.proofs.lemmas.List.{get_or-set_same, get_or-set_other, length-set}
-use Rattle.value_model.specs.Store.{Store, here, place_of_running}
-use Rattle.value_model.specs.Waits.{Wait, Waits, waiting, with_waiting, await, Waited}
-use Rattle.code_simulation.specs.Relation.{Dyn, store_s, Setting, Desc, Ok}
-use Rattle.code_simulation.proofs.World.{keeps_all}
-use Rattle.code_simulation.proofs.Deciding.{decides, ok_decides}
+use Rattle.std.proofs.Math.ListN.{get_or-append}
+use Rattle.value_model.specs.declared.builtin.Builtin.{Builtin}
+use Rattle.value_model.specs.declared.builtin.Builtin.TheVariants.{CoroutineClose}
+use Rattle.value_model.specs.declared.event.Reply.{Reply}
+use Rattle.value_model.specs.declared.event.Reply.TheVariants as answered
+use Rattle.value_model.specs.declared.event.EventKind.{EventKind}
+use Rattle.value_model.specs.Values.{Bytes, Value, Nil, Boolean, Number, Text, Table, Closure, Native, Host, Wrap, Thread, TableRef, kind_of}
+use Rattle.value_model.specs.Errors.{RunError, CallOf, error_text}
+use Rattle.value_model.specs.Store.{Store, here, place_of_running, environment_of, with_environment}
+use Rattle.value_model.specs.Waits.{Wait, Runs, Protects, Guards, Handles, Resumes, Asks, Waits, waiting, with_waiting, leave, await, rest_of, Caller, ByScript, ByLibrary, Case, Called, Given, Passed, Answer, Gives, Enters, Calls, Throws, Stops, Fails, Waited, Continue}
+use Rattle.value_model.specs.Waits as kept
+use Rattle.value_model.specs.Choices.{Outcome, Done, CallThis, Errs}
+use Rattle.value_model.specs.Metamethods.{is_function, callee_of, callable, metamethod}
+use Rattle.value_model.specs.Answers.{CoMove, LibAnswer, Answers, PrintsLine, ErrsWith, RaisesValue, HaltsWith, CallsBack, Moves, OnEnvironment, EnvironmentUse, Reads, Replaces}
+use Rattle.value_model.specs.Library.{lib, go_on}
+use Rattle.value_model.specs.Waiting as decision
+use Rattle.value_model.specs.Waiting.{wait, for_all, by_library, move_by}
+use Rattle.bounded_runs.specs.Runs.{Goes}
+use Rattle.source_meaning.specs.States as source
+use Rattle.source_meaning.specs.Calls as source_calls
+use Rattle.source_meaning.specs.Steps as source_steps
+use Rattle.machine_meaning.specs.States as machine
+use Rattle.machine_meaning.specs.Calls as machine_calls
+use Rattle.machine_meaning.specs.Steps as machine_steps
+use Rattle.code_simulation.specs.Relation.{Dyn, store_s, store_m, Around, Setting, FuncAlike, Desc, AllRest, Ok}
+use Rattle.code_simulation.specs.Along.{Alike, GivesOn, Stands, bottom, function, other, Outside, Invokes, Hands, Faults, Raises, CallsGo}
+use Rattle.code_simulation.proofs.World.{keeps_all, ok_later}
+use Rattle.code_simulation.proofs.Moving.{source_goes, target_goes}
+use Rattle.code_simulation.proofs.Waiting.{stands_later, leaves, ok_leaves, waiting_left, waiting_others, innermost_s, innermost_m}
+use Rattle.code_simulation.proofs.Entering.{FuncsGo}
+use Rattle.code_simulation.proofs.Deciding.{decides, ok_decides, Later, Follows, AlikeOutside, decided_same, asked_alike}
 
 -- ---- what waits, where one more does
 
@@ -29,3 +56,175 @@ pub ok_more : {p : Setting} {turns co : ℕ} {ws : List Wait} {ds : List Desc} {
 ok_more {p} {turns} {co} {ws} {ds} {d} a w store waits o =
     ok_decides a (w ∷ ws) ds (ap here store ∙ o.running) (subst (λ v. co < length v) (sym waits) (omega (arith, o.room, length-set d.script.waits (here (store_s d)) (w ∷ waiting d.script.waits (here (store_s d)))))) (ap (λ v. waiting v co) waits ∙ waiting_more w d.script.waits (store_s d) co o.running o.room ∙ ap (λ v. w ∷ v) o.waits) o.rest
     (p.others_keep turns co 0 d (decides d a) keeps_all (record { running = ap (λ s. s.running) store; coroutines = ap (λ s. s.coroutines) store; waits = λ j ne. ap (λ v. waiting v j) waits ∙ waiting_more_others w d.script.waits (store_s d) co j o.running ne; script = refl; code = refl }) o.others) o
+
+-- and one after which the innermost, which is no function, waits no more
+ok_less : {p : Setting} {turns co : ℕ} {w : Wait} {ws : List Wait} {ds : List Desc} {d : Dyn} → (a : Waited) → a.store ≡ store_s d → a.waits ≡ leave d.script.waits (store_s d) → Ok p turns co (w ∷ ws) ds d → Ok p turns co ws ds (decides d a)
+ok_less {d = d} a store waits o =
+    ok_kept {d = leaves d} a (ap (λ s. s.running) store) (ap (λ s. s.coroutines) store) waits (ok_leaves o.rest o)
+
+stands_below : {p : Setting} {left co : ℕ} {w : Wait} {ws : List Wait} {fs : List source.Activation} {ms : List machine.Frame} {ds : List Desc} → source_calls.is_function (Some w) ≡ false → Stands p left co (w ∷ ws) fs ms ds → Stands p left co ws fs ms ds
+stands_below e (other x s) = s
+stands_below e (function go s) = absurd (true_false e)
+  where
+    true_false : true ≡ false → ⊥
+    true_false e = cc
+
+-- ---- what is decided, by the cases
+
+called_is : (by : Caller) (f : Value) (args : List Value) (reply : Option Reply) (ws : Waits) (s : Store) → wait ws s (Called by f args) reply ≡ decision.called by f args reply ws s
+unfolding wait
+called_is by f args reply ws s = refl
+
+given_is : (vs : List Value) (reply : Option Reply) (ws : Waits) (s : Store) → wait ws s (Given vs) reply ≡ decision.given (waiting ws (here s)) vs ws s
+unfolding wait
+given_is vs reply ws s = refl
+
+passed_is : (v : Value) (reply : Option Reply) (ws : Waits) (s : Store) → wait ws s (Passed v) reply ≡ decision.passed (waiting ws (here s)) v ws s
+unfolding wait
+passed_is v reply ws s = refl
+
+-- what is called where a value that is no function is
+callee_cases : (s : Store) (f : Value) → is_function f ≡ false → ((g : Value) × (is_function g ≡ true) × (callee_of s f ≡ CallThis g (f ∷ []))) ⊎ ((e : RunError) × (callee_of s f ≡ Errs e))
+unfolding callee_of
+callee_cases s f no_function = by_handler (metamethod s f (codes "__call")) (is_function (metamethod s f (codes "__call"))) refl
+  where
+    by_handler : (h : Value) (b : Bool) → is_function h ≡ b → ((g : Value) × (is_function g ≡ true) × ((if is_function f then Done f else callable f h) ≡ CallThis g (f ∷ []))) ⊎ ((e : RunError) × ((if is_function f then Done f else callable f h) ≡ Errs e))
+    by_handler h true e = inl (h, e, ap (λ b. if b then Done f else callable f h) no_function ∙ ap (λ b. if b then CallThis h (f ∷ []) else Errs (CallOf (kind_of f))) e)
+    by_handler h false e = inr (CallOf (kind_of f), ap (λ b. if b then Done f else callable f h) no_function ∙ ap (λ b. if b then CallThis h (f ∷ []) else Errs (CallOf (kind_of f))) e)
+
+-- no coroutine is closed
+record Open (c : Case) : Type 0 where
+  script : (s : Store) (w : source.World) → source_calls.without_closed c s w ≡ w
+  code : (s : Store) (w : machine.World) → machine_calls.without_closed c s w ≡ w
+
+closing : (by : Caller) (b : Builtin) (vs : List Value) → Open (Called by (Native b) vs) ⊎ ((b ≡ CoroutineClose) × (i : ℕ) × (us : List Value) × (vs ≡ Thread i ∷ us))
+closing by CoroutineClose (Thread i ∷ us) = inr (refl, i, us, refl)
+closing by b vs = inl (record { script = λ s w. refl; code = λ s w. refl })
+
+-- ---- what is a premise here: what coroutines do, and that the library's answers leave those that wait as they are
+
+abbrev pub OutsideGo : Setting → ℕ → Outside → List Wait → Type 0
+OutsideGo p left x ws =
+    (co : ℕ) (fs : List source.Activation) (ms : List machine.Frame) (ds : List Desc) (d : Dyn) → Ok p left co ws ds d → Stands p left co ws fs ms ds → AlikeOutside p left x fs ms d
+
+-- an answer of the library keeps those that wait
+abbrev pub Fair : Setting → (left co : ℕ) → LibAnswer → Dyn → Type 0
+Fair p left co x d =
+    (vs : List Value) (s : Store) → x ≡ Answers vs s → (here s ≡ co) × p.Others left co (decides d (decision.now (Gives vs) (for_all s d.script.waits) s))
+
+pub record Coroutines (p : Setting) (left : ℕ) : Type 0 where
+  pub closes : (by : Caller) (i : ℕ) (vs : List Value) (ws : List Wait) → OutsideGo p left (Invokes by (Native CoroutineClose) (Thread i ∷ vs)) ws
+  pub wraps : (by : Caller) (i : ℕ) (vs : List Value) (ws : List Wait) → OutsideGo p left (Invokes by (Wrap i) vs) ws
+  pub moves : (x : CoMove) (co : ℕ) (ws : List Wait) (fs : List source.Activation) (ms : List machine.Frame) (ds : List Desc) (d : Dyn) → Ok p left co ws ds d → Stands p left co ws fs ms ds → (s : source.State) (m : machine.State) → source_steps.step p.texts s ≡ source_calls.decided (move_by x d.script.waits (store_s d)) fs d.script → machine_steps.step p.chunk m ≡ machine_calls.decided p.chunk (move_by x d.script.waits (store_s d)) ms d.code → Alike p left s m
+  -- the end of a coroutine that was resumed
+  pub ends : (i : ℕ) (vs : List Value) (co : ℕ) (fs : List source.Activation) (ms : List machine.Frame) (ds : List Desc) (d : Dyn) → (store_s d).running ≡ Some i → Ok p left co [] ds d → Stands p left co [] fs ms ds → AlikeOutside p left (Hands vs) fs ms d
+  pub dies : (i : ℕ) (v : Value) (co : ℕ) (fs : List source.Activation) (ms : List machine.Frame) (ds : List Desc) (d : Dyn) → (store_s d).running ≡ Some i → Ok p left co [] ds d → Stands p left co [] fs ms ds → AlikeOutside p left (Raises v) fs ms d
+  pub library : (b : Builtin) (args : List Value) (co : ℕ) (ws : List Wait) (ds : List Desc) (d : Dyn) → Ok p left co ws ds d → Fair p left co (lib b args (store_s d)) d
+  pub continues : (c : Continue) (v : Value) (co : ℕ) (ws : List Wait) (ds : List Desc) (d : Dyn) → Ok p left co ws ds d → Fair p left co (go_on c v (store_s d)) d
+
+module _ (p : Setting) (left : ℕ) (co_laws : Coroutines p left) (fewer_calls : (i : ℕ) → i < left → CallsGo p i) (funcs : (i : ℕ) → i < left → FuncsGo p i) where
+  abbrev HandsGo : List Wait → Type 0
+  HandsGo ws = (vs : List Value) → OutsideGo p left (Hands vs) ws
+
+  abbrev RaisesGo : List Wait → Type 0
+  RaisesGo ws = (v : Value) → OutsideGo p left (Raises v) ws
+
+  abbrev LibraryGoes : List Wait → Type 0
+  LibraryGoes ws = (f : Value) (vs : List Value) → OutsideGo p left (Invokes ByLibrary f vs) ws
+
+  faults_go : (ws : List Wait) → RaisesGo ws → (e : RunError) → OutsideGo p left (Faults e) ws
+  faults_go ws raises e co fs ms ds d o stands =
+      source_goes p refl (target_goes p refl (raises (Text (error_text e)) co fs ms ds d o stands))
+
+  -- both ask, and what is decided is this
+  asks_same : (c : Case) (a : Waited) (co : ℕ) (ws : List Wait) (fs : List source.Activation) (ms : List machine.Frame) (ds : List Desc) (d : Dyn) → wait d.script.waits (store_s d) c (slice_get d.script.replies 0) ≡ a → Open c → Ok p left co ws ds d → here a.store ≡ co → Later a.charged left (λ l. Follows p l a.answer fs ms (decides d a)) → (s : source.State) (m : machine.State) → source_steps.step p.texts s ≡ source_calls.asks c fs d.script → machine_steps.step p.chunk m ≡ machine_calls.asks p.chunk c ms d.code → Alike p left s m
+  asks_same c a co ws fs ms ds d is keeps_open o next go s m e f =
+      decided_same p a co left fs ms d o.running next o.base go s m
+      (e ∙ ap (λ x. source_calls.decided x fs (source_calls.without_closed c x.store d.script)) is ∙ ap (λ w. source_calls.decided a fs w) (keeps_open.script a.store d.script))
+      (f ∙ ap (λ x. machine_calls.decided p.chunk x ms (machine_calls.without_closed c x.store d.code)) (asked_alike p c d o.base ∙ is) ∙ ap (λ w. machine_calls.decided p.chunk a ms w) (keeps_open.code a.store d.code))
+
+  plain_open : (by : Caller) (f : Value) (vs : List Value) → ((s : Store) (w : source.World) → source_calls.without_closed (Called by f vs) s w ≡ w) → ((s : Store) (w : machine.World) → machine_calls.without_closed (Called by f vs) s w ≡ w) → Open (Called by f vs)
+  plain_open by f vs x y = record { script = x; code = y }
+
+  -- a Luau function is entered
+  closure_goes : (by : Caller) (c : ℕ) (vs : List Value) (ws : List Wait) → OutsideGo p left (Invokes by (Closure c) vs) ws
+  closure_goes by c vs ws co fs ms ds d o stands =
+      let a = decision.charged (Enters c vs) (await (Runs c) d.script.waits (store_s d)) (store_s d) in
+      asks_same (Called by (Closure c) vs) a co ws fs ms ds d (called_is by (Closure c) vs _ d.script.waits (store_s d)) (record { script = λ s w. refl; code = λ s w. refl }) o o.running
+      (λ i e b m al. funcs i (omega (arith, e)) b.func m.proto al.ups al.proto al.coded b.env m.cells c vs co ws fs ms ds (decides d a)
+      (ok_later p i left co (Runs c ∷ ws) ds (decides d a) (omega (arith, e)) (ok_more a (Runs c) refl refl o)) al.alike (stands_later i (omega (arith, e)) stands))
+      _ _ refl refl
+
+  -- a library or host function that the library calls charges a turn, and then starts
+  charged_goes : (f : Value) (vs : List Value) (ws : List Wait) (co : ℕ) (fs : List source.Activation) (ms : List machine.Frame) (ds : List Desc) (d : Dyn) → Open (Called ByLibrary f vs) → decision.called ByLibrary f vs (slice_get d.script.replies 0) d.script.waits (store_s d) ≡ decision.charged (Calls ByScript f vs) d.script.waits (store_s d) → Ok p left co ws ds d → Stands p left co ws fs ms ds → AlikeOutside p left (Invokes ByLibrary f vs) fs ms d
+  charged_goes f vs ws co fs ms ds d keeps_open is o stands =
+      let a = decision.charged (Calls ByScript f vs) d.script.waits (store_s d) in
+      asks_same (Called ByLibrary f vs) a co ws fs ms ds d (called_is ByLibrary f vs _ d.script.waits (store_s d) ∙ is) keeps_open o o.running
+      (λ i e. fewer_calls i (omega (arith, e)) (Invokes ByScript f vs) co ws fs ms ds (decides d a)
+      (ok_later p i left co ws ds (decides d a) (omega (arith, e)) (ok_kept a refl refl refl o)) (stands_later i (omega (arith, e)) stands))
+      _ _ refl refl
+
+  -- the library calls a function
+  function_goes : (ws : List Wait) → (g : Value) (vs : List Value) → is_function g ≡ true → OutsideGo p left (Invokes ByLibrary g vs) ws
+  unfolding is_function
+  function_goes ws (Closure c) vs e co fs ms ds d o stands = closure_goes ByLibrary c vs ws co fs ms ds d o stands
+  function_goes ws (Native b) vs e co fs ms ds d o stands =
+      ⊎_elim
+      (λ keeps_open. charged_goes (Native b) vs ws co fs ms ds d keeps_open refl o stands)
+      (λ x. subst (λ b. AlikeOutside p left (Invokes ByLibrary (Native b) vs) fs ms d) (sym x.0)
+      (subst (λ us. AlikeOutside p left (Invokes ByLibrary (Native CoroutineClose) us) fs ms d) (sym x.3) (co_laws.closes ByLibrary x.1 x.2 ws co fs ms ds d o stands)))
+      (closing ByLibrary b vs)
+  function_goes ws (Host i) vs e co fs ms ds d o stands =
+      charged_goes (Host i) vs ws co fs ms ds d (record { script = λ s w. refl; code = λ s w. refl }) refl o stands
+  function_goes ws (Wrap i) vs e co fs ms ds d o stands = co_laws.wraps ByLibrary i vs ws co fs ms ds d o stands
+  function_goes ws Nil vs e co fs ms ds d o stands = absurd (false_true e)
+    where
+      false_true : false ≡ true → ⊥
+      false_true e = cc
+  function_goes ws (Boolean b) vs e co fs ms ds d o stands = absurd (false_true e)
+    where
+      false_true : false ≡ true → ⊥
+      false_true e = cc
+  function_goes ws (Number z) vs e co fs ms ds d o stands = absurd (false_true e)
+    where
+      false_true : false ≡ true → ⊥
+      false_true e = cc
+  function_goes ws (Text bs) vs e co fs ms ds d o stands = absurd (false_true e)
+    where
+      false_true : false ≡ true → ⊥
+      false_true e = cc
+  function_goes ws (Table t) vs e co fs ms ds d o stands = absurd (false_true e)
+    where
+      false_true : false ≡ true → ⊥
+      false_true e = cc
+  function_goes ws (Thread i) vs e co fs ms ds d o stands = absurd (false_true e)
+    where
+      false_true : false ≡ true → ⊥
+      false_true e = cc
+
+  -- what is no function may say what is called in its place, or is refused
+  other_goes : (by : Caller) (ws : List Wait) → RaisesGo ws → (f : Value) (vs : List Value) → is_function f ≡ false → Open (Called by f vs) → ((s : Store) (w : Waits) (r : Option Reply) → decision.called by f vs r w s ≡ decision.by_callee (callee_of s f) vs w s) → OutsideGo p left (Invokes by f vs) ws
+  other_goes by ws raises f vs no_function keeps_open is co fs ms ds d o stands =
+      ⊎_elim
+      (λ c.
+      let a = decision.now (Calls ByLibrary c.0 ((f ∷ []) ++ vs)) d.script.waits (store_s d) in
+      asks_same (Called by f vs) a co ws fs ms ds d (called_is by f vs _ d.script.waits (store_s d) ∙ is (store_s d) d.script.waits _ ∙ ap (λ x. decision.by_callee x vs d.script.waits (store_s d)) c.2) keeps_open o o.running
+      (function_goes ws c.0 ((f ∷ []) ++ vs) c.1 co fs ms ds (decides d a) (ok_kept a refl refl refl o) stands)
+      _ _ refl refl)
+      (λ c.
+      let a = decision.fails c.0 d.script.waits (store_s d) in
+      asks_same (Called by f vs) a co ws fs ms ds d (called_is by f vs _ d.script.waits (store_s d) ∙ is (store_s d) d.script.waits _ ∙ ap (λ x. decision.by_callee x vs d.script.waits (store_s d)) c.1) keeps_open o o.running
+      (faults_go ws raises c.0 co fs ms ds (decides d a) (ok_kept a refl refl refl o) stands)
+      _ _ refl refl)
+      (callee_cases (store_s d) f no_function)
+
+  -- the library calls a value
+  library_calls : (ws : List Wait) → RaisesGo ws → LibraryGoes ws
+  unfolding is_function
+  library_calls ws raises Nil vs = other_goes ByLibrary ws raises Nil vs refl (record { script = λ s w. refl; code = λ s w. refl }) (λ s w r. refl)
+  library_calls ws raises (Boolean b) vs = other_goes ByLibrary ws raises (Boolean b) vs refl (record { script = λ s w. refl; code = λ s w. refl }) (λ s w r. refl)
+  library_calls ws raises (Number z) vs = other_goes ByLibrary ws raises (Number z) vs refl (record { script = λ s w. refl; code = λ s w. refl }) (λ s w r. refl)
+  library_calls ws raises (Text bs) vs = other_goes ByLibrary ws raises (Text bs) vs refl (record { script = λ s w. refl; code = λ s w. refl }) (λ s w r. refl)
+  library_calls ws raises (Table t) vs = other_goes ByLibrary ws raises (Table t) vs refl (record { script = λ s w. refl; code = λ s w. refl }) (λ s w r. refl)
+  library_calls ws raises (Thread i) vs = other_goes ByLibrary ws raises (Thread i) vs refl (record { script = λ s w. refl; code = λ s w. refl }) (λ s w r. refl)
+  library_calls ws raises f vs = function_goes ws f vs refl
