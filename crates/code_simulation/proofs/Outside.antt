@@ -6,11 +6,12 @@ use Rattle.std.proofs.lemmas.List.{get_or-set_same, get_or-set_other, length-set
 use Rattle.std.proofs.Math.ListN.{get_or-append}
 use Rattle.value_model.specs.declared.builtin.Builtin.{Builtin}
 use Rattle.value_model.specs.declared.builtin.Builtin.TheVariants.{CoroutineClose}
+use Rattle.value_model.specs.declared.plain.Plain.{Plain}
 use Rattle.value_model.specs.declared.event.Reply.{Reply}
 use Rattle.value_model.specs.declared.event.Reply.TheVariants as answered
 use Rattle.value_model.specs.declared.event.EventKind.{EventKind}
 use Rattle.value_model.specs.Values.{Bytes, Value, Nil, Boolean, Number, Text, Table, Closure, Native, Host, Wrap, Thread, TableRef, kind_of}
-use Rattle.value_model.specs.Errors.{RunError, CallOf, error_text}
+use Rattle.value_model.specs.Errors.{RunError, CallOf, FixedEnvironment, error_text}
 use Rattle.value_model.specs.Store.{Store, here, place_of_running, environment_of, with_environment}
 use Rattle.value_model.specs.Waits.{Wait, Runs, Protects, Guards, Handles, Resumes, Asks, Waits, waiting, with_waiting, leave, await, rest_of, Caller, ByScript, ByLibrary, Case, Called, Given, Passed, Answer, Gives, Enters, Calls, Throws, Stops, Fails, Waited, Continue}
 use Rattle.value_model.specs.Waits as kept
@@ -107,10 +108,10 @@ abbrev pub OutsideGo : Setting → ℕ → Outside → List Wait → Type 0
 OutsideGo p left x ws =
     (co : ℕ) (fs : List source.Activation) (ms : List machine.Frame) (ds : List Desc) (d : Dyn) → Ok p left co ws ds d → Stands p left co ws fs ms ds → AlikeOutside p left x fs ms d
 
--- an answer of the library keeps those that wait
-abbrev pub Fair : Setting → (left co : ℕ) → LibAnswer → Dyn → Type 0
-Fair p left co x d =
-    (vs : List Value) (s : Store) → x ≡ Answers vs s → (here s ≡ co) × p.Others left co (decides d (decision.now (Gives vs) (for_all s d.script.waits) s))
+-- an answer of the library keeps those that wait, and what waits for a call of its own is no function of the script
+pub record Fair (p : Setting) (left co : ℕ) (x : LibAnswer) (d : Dyn) : Type 0 where
+  pub answers : (vs : List Value) (s : Store) → x ≡ Answers vs s → (here s ≡ co) × p.Others left co (decides d (decision.now (Gives vs) (for_all s d.script.waits) s))
+  pub waits : (g : Value) (vs : List Value) (w : Wait) → x ≡ CallsBack g vs w → source_calls.is_function (Some w) ≡ false
 
 pub record Coroutines (p : Setting) (left : ℕ) : Type 0 where
   pub closes : (by : Caller) (i : ℕ) (vs : List Value) (ws : List Wait) → OutsideGo p left (Invokes by (Native CoroutineClose) (Thread i ∷ vs)) ws
@@ -228,3 +229,249 @@ module _ (p : Setting) (left : ℕ) (co_laws : Coroutines p left) (fewer_calls :
   library_calls ws raises (Table t) vs = other_goes ByLibrary ws raises (Table t) vs refl (record { script = λ s w. refl; code = λ s w. refl }) (λ s w r. refl)
   library_calls ws raises (Thread i) vs = other_goes ByLibrary ws raises (Thread i) vs refl (record { script = λ s w. refl; code = λ s w. refl }) (λ s w r. refl)
   library_calls ws raises f vs = function_goes ws f vs refl
+
+  -- ---- what waits innermost is no function: it is asked
+
+  -- errors
+  passed_here : (w : Wait) (ws : List Wait) (v : Value) (a : Waited) (co : ℕ) (fs : List source.Activation) (ms : List machine.Frame) (ds : List Desc) (d : Dyn) → source_calls.is_function (Some w) ≡ false → machine_calls.is_function (Some w) ≡ false → Ok p left co (w ∷ ws) ds d → decision.passed (w ∷ ws) v d.script.waits (store_s d) ≡ a → here a.store ≡ co → Later a.charged left (λ l. Follows p l a.answer fs ms (decides d a)) → AlikeOutside p left (Raises v) fs ms d
+  passed_here w ws v a co fs ms ds d no_s no_m o is next go =
+      asks_same (Passed v) a co (w ∷ ws) fs ms ds d
+      (passed_is v _ d.script.waits (store_s d) ∙ ap (λ n. decision.passed (waiting d.script.waits n) v d.script.waits (store_s d)) o.running ∙ ap (λ x. decision.passed x v d.script.waits (store_s d)) o.waits ∙ is)
+      (record { script = λ s w. refl; code = λ s w. refl }) o next go _ _
+      (ap (λ x. source_calls.raise (source_calls.is_function x) v fs d.script) (innermost_s o) ∙ ap (λ b. source_calls.raise b v fs d.script) no_s)
+      (ap (λ x. machine_calls.raise p.chunk (machine_calls.is_function x) v ms d.code) (innermost_m o) ∙ ap (λ b. machine_calls.raise p.chunk b v ms d.code) no_m)
+
+  -- values
+  given_here : (w : Wait) (ws : List Wait) (vs : List Value) (a : Waited) (co : ℕ) (fs : List source.Activation) (ms : List machine.Frame) (ds : List Desc) (d : Dyn) → source_calls.is_function (Some w) ≡ false → machine_calls.is_function (Some w) ≡ false → Ok p left co (w ∷ ws) ds d → decision.given (w ∷ ws) vs d.script.waits (store_s d) ≡ a → here a.store ≡ co → Later a.charged left (λ l. Follows p l a.answer fs ms (decides d a)) → AlikeOutside p left (Hands vs) fs ms d
+  given_here w ws vs a co fs ms ds d no_s no_m o is next go =
+      asks_same (Given vs) a co (w ∷ ws) fs ms ds d
+      (given_is vs _ d.script.waits (store_s d) ∙ ap (λ n. decision.given (waiting d.script.waits n) vs d.script.waits (store_s d)) o.running ∙ ap (λ x. decision.given x vs d.script.waits (store_s d)) o.waits ∙ is)
+      (record { script = λ s w. refl; code = λ s w. refl }) o next go _ _
+      (ap (λ x. source_calls.hand (source_calls.is_function x) vs fs d.script) (innermost_s o) ∙ ap (λ b. source_calls.hand b vs fs d.script) no_s)
+      (ap (λ x. machine_calls.hand p.chunk (machine_calls.is_function x) vs ms d.code) (innermost_m o) ∙ ap (λ b. machine_calls.hand p.chunk b vs ms d.code) no_m)
+
+  -- a call is over, and these values go on
+  abbrev over_with : Dyn → Answer → Waited
+  over_with d x = decision.now x (leave d.script.waits (store_s d)) (store_s d)
+
+  -- the handler's error is caught with the value
+  raises_handler : (ws : List Wait) → HandsGo ws → RaisesGo (Handles ∷ ws)
+  raises_handler ws hands v co fs ms ds d o stands =
+      let a = over_with d (Gives (Boolean false ∷ v ∷ [])) in
+      passed_here Handles ws v a co fs ms ds d refl refl o refl o.running
+      (hands (Boolean false ∷ v ∷ []) co fs ms ds (decides d a) (ok_less a refl refl o) (stands_below refl stands))
+
+  -- whatever waits innermost, an error goes on where it does below
+  raises_more : (ws : List Wait) → HandsGo ws → RaisesGo ws → (w : Wait) → RaisesGo (w ∷ ws)
+  raises_more ws hands raises (Runs c) v co _ _ _ d o (function {a = act} {fs = fs} {f = fr} {ms = ms} {ds = ds} go stands) =
+      source_goes p (ap (λ x. source_calls.raise (source_calls.is_function x) v (act ∷ fs) d.script) (innermost_s o))
+      (target_goes p (ap (λ x. machine_calls.raise p.chunk (machine_calls.is_function x) v (fr ∷ ms) d.code) (innermost_m o))
+      (raises v co fs ms ds (leaves d) (ok_leaves o.rest.1 o) stands))
+  raises_more ws hands raises (Runs c) v co fs ms ds d o (other e stands) = absurd (true_false e)
+    where
+      true_false : true ≡ false → ⊥
+      true_false e = cc
+  raises_more ws hands raises Protects v co fs ms ds d o stands =
+      let a = over_with d (Gives (Boolean false ∷ v ∷ [])) in
+      passed_here Protects ws v a co fs ms ds d refl refl o refl o.running
+      (hands (Boolean false ∷ v ∷ []) co fs ms ds (decides d a) (ok_less a refl refl o) (stands_below refl stands))
+  raises_more ws hands raises (Guards h) v co fs ms ds d o stands =
+      let a = decision.now (Calls ByLibrary h (v ∷ [])) (await Handles (leave d.script.waits (store_s d)) (store_s d)) (store_s d) in
+      passed_here (Guards h) ws v a co fs ms ds d refl refl o refl o.running
+      (library_calls (Handles ∷ ws) (raises_handler ws hands) h (v ∷ []) co fs ms ds (decides d a)
+      (ok_more {d = leaves d} a Handles refl refl (ok_leaves o.rest o)) (other refl (stands_below refl stands)))
+  raises_more ws hands raises Handles v co fs ms ds d o stands = raises_handler ws hands v co fs ms ds d o stands
+  raises_more ws hands raises (Resumes true) v co fs ms ds d o stands =
+      let a = over_with d (Throws (kept.Raises v kept.Elsewise)) in
+      passed_here (Resumes true) ws v a co fs ms ds d refl refl o refl o.running
+      (raises v co fs ms ds (decides d a) (ok_less a refl refl o) (stands_below refl stands))
+  raises_more ws hands raises (Resumes false) v co fs ms ds d o stands =
+      let a = over_with d (Gives (Boolean false ∷ v ∷ [])) in
+      passed_here (Resumes false) ws v a co fs ms ds d refl refl o refl o.running
+      (hands (Boolean false ∷ v ∷ []) co fs ms ds (decides d a) (ok_less a refl refl o) (stands_below refl stands))
+  raises_more ws hands raises (Asks c) v co fs ms ds d o stands =
+      let a = over_with d (Throws (kept.Raises v kept.Elsewise)) in
+      passed_here (Asks c) ws v a co fs ms ds d refl refl o refl o.running
+      (raises v co fs ms ds (decides d a) (ok_less a refl refl o) (stands_below refl stands))
+
+  -- ---- what the library answers
+
+  -- an environment is given, or replaced
+  replaced_goes : (r : Option ℕ) (t : TableRef) (ws : List Wait) → HandsGo ws → RaisesGo ws → (co : ℕ) (fs : List source.Activation) (ms : List machine.Frame) (ds : List Desc) (d : Dyn) → Ok p left co ws ds d → Stands p left co ws fs ms ds → (s : source.State) (m : machine.State) → source_steps.step p.texts s ≡ source_calls.decided (decision.replace_environment r t d.script.waits (store_s d)) fs d.script → machine_steps.step p.chunk m ≡ machine_calls.decided p.chunk (decision.replace_environment r t d.script.waits (store_s d)) ms d.code → Alike p left s m
+  replaced_goes None t ws hands raises co fs ms ds d o stands s m e f =
+      let a = decision.fails FixedEnvironment d.script.waits (store_s d) in
+      decided_same p a co left fs ms d o.running o.running o.base (faults_go ws raises _ co fs ms ds (decides d a) (ok_kept a refl refl refl o) stands) s m e f
+  replaced_goes (Some c) t ws hands raises co fs ms ds d o stands s m e f =
+      let a = decision.noted t (Gives (Closure c ∷ [])) d.script.waits (with_environment (store_s d) c t) in
+      decided_same p a co left fs ms d o.running o.running o.base (hands (Closure c ∷ []) co fs ms ds (decides d a) (ok_kept a refl refl refl o) stands) s m e f
+
+  -- whatever it is
+  answer_goes : (x : LibAnswer) (ws : List Wait) → HandsGo ws → RaisesGo ws → (co : ℕ) (fs : List source.Activation) (ms : List machine.Frame) (ds : List Desc) (d : Dyn) → Fair p left co x d → Ok p left co ws ds d → Stands p left co ws fs ms ds → (s : source.State) (m : machine.State) → source_steps.step p.texts s ≡ source_calls.decided (by_library x d.script.waits (store_s d)) fs d.script → machine_steps.step p.chunk m ≡ machine_calls.decided p.chunk (by_library x d.script.waits (store_s d)) ms d.code → Alike p left s m
+  answer_goes (Answers vs st) ws hands raises co fs ms ds d fair o stands s m e f =
+      let a = decision.now (Gives vs) (for_all st d.script.waits) st in
+      let more : List (List Wait) = replicate (length st.coroutines - length d.script.waits) [] in
+      let kept_fair = fair.answers vs st refl in
+      decided_same p a co left fs ms d o.running kept_fair.0 o.base
+      (hands vs co fs ms ds (decides d a)
+      (ok_decides a ws ds kept_fair.0 (omega (arith, o.room, length-append d.script.waits more)) (get_or-append d.script.waits more [] co o.room ∙ o.waits) o.rest kept_fair.1 o) stands) s m e f
+  answer_goes (PrintsLine line) ws hands raises co fs ms ds d fair o stands s m e f =
+      let a = by_library (PrintsLine line) d.script.waits (store_s d) in
+      decided_same p a co left fs ms d o.running o.running o.base (hands [] co fs ms ds (decides d a) (ok_kept a refl refl refl o) stands) s m e f
+  answer_goes (ErrsWith x) ws hands raises co fs ms ds d fair o stands s m e f =
+      let a = by_library (ErrsWith x) d.script.waits (store_s d) in
+      decided_same p a co left fs ms d o.running o.running o.base (faults_go ws raises x co fs ms ds (decides d a) (ok_kept a refl refl refl o) stands) s m e f
+  answer_goes (RaisesValue v origin) ws hands raises co fs ms ds d fair o stands s m e f =
+      let a = by_library (RaisesValue v origin) d.script.waits (store_s d) in
+      decided_same p a co left fs ms d o.running o.running o.base (raises v co fs ms ds (decides d a) (ok_kept a refl refl refl o) stands) s m e f
+  answer_goes (HaltsWith stop) ws hands raises co fs ms ds d fair o stands s m e f =
+      decided_same p (by_library (HaltsWith stop) d.script.waits (store_s d)) co left fs ms d o.running o.running o.base tt s m e f
+  answer_goes (CallsBack g vs w) ws hands raises co fs ms ds d fair o stands s m e f =
+      let a = by_library (CallsBack g vs w) d.script.waits (store_s d) in
+      decided_same p a co left fs ms d o.running o.running o.base
+      (library_calls (w ∷ ws) (raises_more ws hands raises w) g vs co fs ms ds (decides d a) (ok_more a w refl refl o) (other (fair.waits g vs w refl) stands)) s m e f
+  answer_goes (Moves x) ws hands raises co fs ms ds d fair o stands s m e f = co_laws.moves x co ws fs ms ds d o stands s m e f
+  answer_goes (OnEnvironment (Reads x)) ws hands raises co fs ms ds d fair o stands s m e f =
+      let a = by_library (OnEnvironment (Reads x)) d.script.waits (store_s d) in
+      decided_same p a co left fs ms d o.running o.running o.base (hands _ co fs ms ds (decides d a) (ok_kept a refl refl refl o) stands) s m e f
+  answer_goes (OnEnvironment (Replaces x t)) ws hands raises co fs ms ds d fair o stands s m e f =
+      replaced_goes (decision.function_meant x (waiting d.script.waits (here (store_s d)))) t ws hands raises co fs ms ds d o stands s m e f
+
+  -- values go on where they do below
+  hands_more : (ws : List Wait) → HandsGo ws → RaisesGo ws → (w : Wait) → HandsGo (w ∷ ws)
+  hands_more ws hands raises (Runs c) vs co _ _ _ d o (function {a = act} {fs = fs} {f = fr} {ms = ms} {ds = ds} go stands) =
+      source_goes p (ap (λ x. source_calls.hand (source_calls.is_function x) vs (act ∷ fs) d.script) (innermost_s o))
+      (target_goes p (ap (λ x. machine_calls.hand p.chunk (machine_calls.is_function x) vs (fr ∷ ms) d.code) (innermost_m o))
+      (go left (omega arith) vs d o))
+  hands_more ws hands raises (Runs c) vs co fs ms ds d o (other e stands) = absurd (true_false e)
+    where
+      true_false : true ≡ false → ⊥
+      true_false e = cc
+  hands_more ws hands raises Protects vs co fs ms ds d o stands =
+      let a = over_with d (Gives (Boolean true ∷ vs)) in
+      given_here Protects ws vs a co fs ms ds d refl refl o refl o.running
+      (hands (Boolean true ∷ vs) co fs ms ds (decides d a) (ok_less a refl refl o) (stands_below refl stands))
+  hands_more ws hands raises (Guards h) vs co fs ms ds d o stands =
+      let a = over_with d (Gives (Boolean true ∷ vs)) in
+      given_here (Guards h) ws vs a co fs ms ds d refl refl o refl o.running
+      (hands (Boolean true ∷ vs) co fs ms ds (decides d a) (ok_less a refl refl o) (stands_below refl stands))
+  hands_more ws hands raises Handles vs co fs ms ds d o stands =
+      let us = Boolean false ∷ decision.first_value vs ∷ [] in
+      let a = over_with d (Gives us) in
+      given_here Handles ws vs a co fs ms ds d refl refl o refl o.running
+      (hands us co fs ms ds (decides d a) (ok_less a refl refl o) (stands_below refl stands))
+  hands_more ws hands raises (Resumes true) vs co fs ms ds d o stands =
+      let a = over_with d (Gives vs) in
+      given_here (Resumes true) ws vs a co fs ms ds d refl refl o refl o.running
+      (hands vs co fs ms ds (decides d a) (ok_less a refl refl o) (stands_below refl stands))
+  hands_more ws hands raises (Resumes false) vs co fs ms ds d o stands =
+      let a = over_with d (Gives (Boolean true ∷ vs)) in
+      given_here (Resumes false) ws vs a co fs ms ds d refl refl o refl o.running
+      (hands (Boolean true ∷ vs) co fs ms ds (decides d a) (ok_less a refl refl o) (stands_below refl stands))
+  hands_more ws hands raises (Asks c) vs co fs ms ds d o stands =
+      let x = go_on c (decision.first_value vs) (store_s d) in
+      let o' = ok_leaves o.rest o in
+      answer_goes x ws hands raises co fs ms ds (leaves d) (co_laws.continues c (decision.first_value vs) co ws ds (leaves d) o') o' (stands_below refl stands) _ _
+      (ap (λ x. source_calls.hand (source_calls.is_function x) vs fs d.script) (innermost_s o)
+      ∙ ap (λ b. source_calls.decided b fs d.script) (given_is vs (slice_get d.script.replies 0) d.script.waits (store_s d) ∙ ap (λ n. decision.given (waiting d.script.waits n) vs d.script.waits (store_s d)) o.running ∙ ap (λ y. decision.given y vs d.script.waits (store_s d)) o.waits))
+      (ap (λ x. machine_calls.hand p.chunk (machine_calls.is_function x) vs ms d.code) (innermost_m o)
+      ∙ ap (λ b. machine_calls.decided p.chunk b ms d.code) (asked_alike p (Given vs) d o.base ∙ given_is vs (slice_get d.script.replies 0) d.script.waits (store_s d) ∙ ap (λ n. decision.given (waiting d.script.waits n) vs d.script.waits (store_s d)) o.running ∙ ap (λ y. decision.given y vs d.script.waits (store_s d)) o.waits))
+
+  -- ---- nothing waits: the main function's run ends
+
+  nothing_s : {co : ℕ} {ds : List Desc} {d : Dyn} → Ok p left co [] ds d → kept.innermost d.script.waits (store_s d) ≡ None
+  nothing_s {d = d} o = ap (λ n. kept.first_of (waiting d.script.waits n)) o.running ∙ ap kept.first_of o.waits
+
+  nothing_m : {co : ℕ} {ds : List Desc} {d : Dyn} → Ok p left co [] ds d → kept.innermost d.code.waits (store_m d) ≡ None
+  nothing_m {d = d} o = ap (λ v. kept.innermost v (store_m d)) (sym o.base.waits) ∙ ap (λ s. kept.innermost d.script.waits s) (sym o.base.store) ∙ nothing_s o
+
+  hands_last : HandsGo []
+  hands_last vs co fs ms ds d o stands = by_running (store_s d).running refl
+    where
+      by_running : (r : Option ℕ) → (store_s d).running ≡ r → AlikeOutside p left (Hands vs) fs ms d
+      by_running (Some i) e = co_laws.ends i vs co fs ms ds d e o stands
+      by_running None e =
+          let a = decision.now (kept.Finishes vs) d.script.waits (store_s d) in
+          asks_same (Given vs) a co [] fs ms ds d
+          (given_is vs _ d.script.waits (store_s d) ∙ ap (λ n. decision.given (waiting d.script.waits n) vs d.script.waits (store_s d)) o.running ∙ ap (λ x. decision.given x vs d.script.waits (store_s d)) o.waits
+          ∙ ap (λ r. decision.finish r vs d.script.waits (store_s d)) e)
+          (record { script = λ s w. refl; code = λ s w. refl }) o o.running tt _ _
+          (ap (λ x. source_calls.hand (source_calls.is_function x) vs fs d.script) (nothing_s o))
+          (ap (λ x. machine_calls.hand p.chunk (machine_calls.is_function x) vs ms d.code) (nothing_m o))
+
+  raises_last : RaisesGo []
+  raises_last v co fs ms ds d o stands = by_running (store_s d).running refl
+    where
+      by_running : (r : Option ℕ) → (store_s d).running ≡ r → AlikeOutside p left (Raises v) fs ms d
+      by_running (Some i) e = co_laws.dies i v co fs ms ds d e o stands
+      by_running None e =
+          let a = decision.now (kept.Dies v) d.script.waits (store_s d) in
+          asks_same (Passed v) a co [] fs ms ds d
+          (passed_is v _ d.script.waits (store_s d) ∙ ap (λ n. decision.passed (waiting d.script.waits n) v d.script.waits (store_s d)) o.running ∙ ap (λ x. decision.passed x v d.script.waits (store_s d)) o.waits
+          ∙ ap (λ r. decision.die r v d.script.waits (store_s d)) e)
+          (record { script = λ s w. refl; code = λ s w. refl }) o o.running tt _ _
+          (ap (λ x. source_calls.raise (source_calls.is_function x) v fs d.script) (nothing_s o))
+          (ap (λ x. machine_calls.raise p.chunk (machine_calls.is_function x) v ms d.code) (nothing_m o))
+
+  -- values and errors go on, whatever waits
+  all_go : (ws : List Wait) → HandsGo ws × RaisesGo ws
+  all_go [] = (hands_last, raises_last)
+  all_go (w ∷ ws) = let g = all_go ws in (hands_more ws g.0 g.1 w, raises_more ws g.0 g.1 w)
+
+  -- ---- a script calls
+
+  -- a host function: what the outside answers is shown
+  replied_goes : (path : Bytes) (args : List Plain) (r : Option Reply) (ws : List Wait) (co : ℕ) (fs : List source.Activation) (ms : List machine.Frame) (ds : List Desc) (d : Dyn) → Ok p left co ws ds d → Stands p left co ws fs ms ds → (s : source.State) (m : machine.State) → source_steps.step p.texts s ≡ source_calls.decided (decision.by_reply path args r d.script.waits (store_s d)) fs d.script → machine_steps.step p.chunk m ≡ machine_calls.decided p.chunk (decision.by_reply path args r d.script.waits (store_s d)) ms d.code → Alike p left s m
+  replied_goes path args None ws co fs ms ds d o stands s m e f =
+      let a = decision.by_reply path args None d.script.waits (store_s d) in
+      decided_same p a co left fs ms d o.running o.running o.base (faults_go ws (all_go ws).1 _ co fs ms ds (decides d a) (ok_kept a refl refl refl o) stands) s m e f
+  replied_goes path args (Some (answered.Values vs)) ws co fs ms ds d o stands s m e f =
+      let a = decision.by_reply path args (Some (answered.Values vs)) d.script.waits (store_s d) in
+      decided_same p a co left fs ms d o.running o.running o.base ((all_go ws).0 _ co fs ms ds (decides d a) (ok_kept a refl refl refl o) stands) s m e f
+  replied_goes path args (Some (answered.Raise v)) ws co fs ms ds d o stands s m e f =
+      let a = decision.by_reply path args (Some (answered.Raise v)) d.script.waits (store_s d) in
+      decided_same p a co left fs ms d o.running o.running o.base ((all_go ws).1 _ co fs ms ds (decides d a) (ok_kept a refl refl refl o) stands) s m e f
+
+  host_goes : (path : Bytes) (x : decision.PlainOrNot) (r : Option Reply) (ws : List Wait) (co : ℕ) (fs : List source.Activation) (ms : List machine.Frame) (ds : List Desc) (d : Dyn) → Ok p left co ws ds d → Stands p left co ws fs ms ds → (s : source.State) (m : machine.State) → source_steps.step p.texts s ≡ source_calls.decided (decision.host_call path x r d.script.waits (store_s d)) fs d.script → machine_steps.step p.chunk m ≡ machine_calls.decided p.chunk (decision.host_call path x r d.script.waits (store_s d)) ms d.code → Alike p left s m
+  host_goes path (Fine args) r ws co fs ms ds d o stands s m e f = replied_goes path args r ws co fs ms ds d o stands s m e f
+  host_goes path (Err x) r ws co fs ms ds d o stands s m e f =
+      let a = decision.host_call path (Err x) r d.script.waits (store_s d) in
+      decided_same p a co left fs ms d o.running o.running o.base (faults_go ws (all_go ws).1 _ co fs ms ds (decides d a) (ok_kept a refl refl refl o) stands) s m e f
+
+  -- what both decide where a script calls a function
+  script_row_s : (f : Value) (vs : List Value) (fs : List source.Activation) (d : Dyn) → Open (Called ByScript f vs) → source_steps.step p.texts (source_calls.state_with (source.Invoke ByScript f vs) fs d.script) ≡ source_calls.decided (decision.called ByScript f vs (slice_get d.script.replies 0) d.script.waits (store_s d)) fs d.script
+  script_row_s f vs fs d keeps_open =
+      ap (λ x. source_calls.decided x fs (source_calls.without_closed (Called ByScript f vs) x.store d.script)) (called_is ByScript f vs (slice_get d.script.replies 0) d.script.waits (store_s d))
+      ∙ ap (λ w. source_calls.decided (decision.called ByScript f vs (slice_get d.script.replies 0) d.script.waits (store_s d)) fs w) (keeps_open.script _ d.script)
+
+  script_row_m : {co : ℕ} {ws : List Wait} {ds : List Desc} (f : Value) (vs : List Value) (ms : List machine.Frame) (d : Dyn) → Open (Called ByScript f vs) → Ok p left co ws ds d → machine_steps.step p.chunk (machine_calls.state_with (machine.Invoke ByScript f vs) ms d.code) ≡ machine_calls.decided p.chunk (decision.called ByScript f vs (slice_get d.script.replies 0) d.script.waits (store_s d)) ms d.code
+  script_row_m f vs ms d keeps_open o =
+      ap (λ x. machine_calls.decided p.chunk x ms (machine_calls.without_closed (Called ByScript f vs) x.store d.code)) (asked_alike p (Called ByScript f vs) d o.base ∙ called_is ByScript f vs (slice_get d.script.replies 0) d.script.waits (store_s d))
+      ∙ ap (λ w. machine_calls.decided p.chunk (decision.called ByScript f vs (slice_get d.script.replies 0) d.script.waits (store_s d)) ms w) (keeps_open.code _ d.code)
+
+  script_calls : (f : Value) (vs : List Value) (ws : List Wait) → OutsideGo p left (Invokes ByScript f vs) ws
+  unfolding is_function
+  script_calls (Closure c) vs ws co fs ms ds d o stands = closure_goes ByScript c vs ws co fs ms ds d o stands
+  script_calls (Wrap i) vs ws co fs ms ds d o stands = co_laws.wraps ByScript i vs ws co fs ms ds d o stands
+  script_calls (Native b) vs ws co fs ms ds d o stands =
+      ⊎_elim
+      (λ keeps_open. answer_goes (lib b vs (store_s d)) ws (all_go ws).0 (all_go ws).1 co fs ms ds d (co_laws.library b vs co ws ds d o) o stands _ _ (script_row_s (Native b) vs fs d keeps_open) (script_row_m (Native b) vs ms d keeps_open o))
+      (λ x. subst (λ b. AlikeOutside p left (Invokes ByScript (Native b) vs) fs ms d) (sym x.0)
+      (subst (λ us. AlikeOutside p left (Invokes ByScript (Native CoroutineClose) us) fs ms d) (sym x.3) (co_laws.closes ByScript x.1 x.2 ws co fs ms ds d o stands)))
+      (closing ByScript b vs)
+  script_calls (Host i) vs ws co fs ms ds d o stands =
+      let keeps_open : Open (Called ByScript (Host i) vs) = record { script = λ s w. refl; code = λ s w. refl } in
+      host_goes (slice_index_or (store_s d).globals.hosts i []) (decision.plain_arguments 0 vs) (slice_get d.script.replies 0) ws co fs ms ds d o stands _ _ (script_row_s (Host i) vs fs d keeps_open) (script_row_m (Host i) vs ms d keeps_open o)
+  script_calls Nil vs ws co fs ms ds d o stands = other_goes ByScript ws (all_go ws).1 Nil vs refl (record { script = λ s w. refl; code = λ s w. refl }) (λ s w r. refl) co fs ms ds d o stands
+  script_calls (Boolean b) vs ws co fs ms ds d o stands = other_goes ByScript ws (all_go ws).1 (Boolean b) vs refl (record { script = λ s w. refl; code = λ s w. refl }) (λ s w r. refl) co fs ms ds d o stands
+  script_calls (Number z) vs ws co fs ms ds d o stands = other_goes ByScript ws (all_go ws).1 (Number z) vs refl (record { script = λ s w. refl; code = λ s w. refl }) (λ s w r. refl) co fs ms ds d o stands
+  script_calls (Text bs) vs ws co fs ms ds d o stands = other_goes ByScript ws (all_go ws).1 (Text bs) vs refl (record { script = λ s w. refl; code = λ s w. refl }) (λ s w r. refl) co fs ms ds d o stands
+  script_calls (Table t) vs ws co fs ms ds d o stands = other_goes ByScript ws (all_go ws).1 (Table t) vs refl (record { script = λ s w. refl; code = λ s w. refl }) (λ s w r. refl) co fs ms ds d o stands
+  script_calls (Thread i) vs ws co fs ms ds d o stands = other_goes ByScript ws (all_go ws).1 (Thread i) vs refl (record { script = λ s w. refl; code = λ s w. refl }) (λ s w r. refl) co fs ms ds d o stands
+
+  -- calls, values and errors go along with so many turns left, where functions that are entered do with fewer
+  pub calls_go : CallsGo p left
+  calls_go (Invokes ByScript f vs) co ws fs ms ds d o stands = script_calls f vs ws co fs ms ds d o stands
+  calls_go (Invokes ByLibrary f vs) co ws fs ms ds d o stands = library_calls ws (all_go ws).1 f vs co fs ms ds d o stands
+  calls_go (Hands vs) co ws fs ms ds d o stands = (all_go ws).0 vs co fs ms ds d o stands
+  calls_go (Faults e) co ws fs ms ds d o stands = faults_go ws (all_go ws).1 e co fs ms ds d o stands
+  calls_go (Raises v) co ws fs ms ds d o stands = (all_go ws).1 v co fs ms ds d o stands
