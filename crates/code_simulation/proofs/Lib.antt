@@ -18,3 +18,4 @@ pub mod Loops
 pub mod Entering
 pub mod Deciding
 pub mod Outside
+pub mod Assigns
