@@ -19,3 +19,4 @@ pub mod Entering
 pub mod Deciding
 pub mod Outside
 pub mod Assigns
+pub mod Updates
