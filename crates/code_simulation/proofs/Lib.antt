@@ -20,3 +20,4 @@ pub mod Deciding
 pub mod Outside
 pub mod Assigns
 pub mod Updates
+pub mod Numeric
