@@ -24,9 +24,11 @@ use Rattle.code_simulation.proofs.Operations.{jump_is}
 abbrev pub Backward : (place : ℕ) → (by : ℤ) → (to : ℕ) → Type 0
 Backward place by to = (pos (place + 1) +ℤ by) ≡ pos to
 
--- the loop around a statement: the slots that are left where it is broken off, and where a turn of it is ended, and the places
+-- the loop around a statement: the slots that are left where it is broken off, and where a turn of it is ended, and the places. A
+-- statement that ends no turn may need the first alone
 pub data Jumps : Type 0 where
   outside : Jumps
+  breaking : (break_slots : List Slot) → (break_place : ℕ) → Jumps
   looping : (break_slots : List Slot) → (break_place : ℕ) → (turn_slots : List Slot) → (turn_place : ℕ) → Jumps
 
 module _ (p : Setting) (most : ℕ) where
@@ -38,10 +40,12 @@ module _ (p : Setting) (most : ℕ) where
 
   abbrev pub Breaks : Here p most → ℕ → Jumps → source.Environment → List source.Frame → Type 0
   Breaks h left outside env k = Unit {0}
+  Breaks h left (breaking lb brk) env k = JumpsTo h left source.Break env lb brk k
   Breaks h left (looping lb brk lc turn) env k = JumpsTo h left source.Break env lb brk k
 
   abbrev pub Continues : Here p most → ℕ → Jumps → source.Environment → List source.Frame → Type 0
   Continues h left outside env k = Unit {0}
+  Continues h left (breaking lb brk) env k = Unit {0}
   Continues h left (looping lb brk lc turn) env k = JumpsTo h left source.Continue env lc turn k
 
   -- from where these variables are in scope
@@ -51,10 +55,12 @@ module _ (p : Setting) (most : ℕ) where
 
   breaks_later : (h : Here p most) (left i : ℕ) (j : Jumps) (env : source.Environment) (k : List source.Frame) → i ≤ left → Breaks h left j env k → Breaks h i j env k
   breaks_later h left i outside env k le x = tt
+  breaks_later h left i (breaking lb brk) env k le x = λ n lt d file w. x n (omega (arith, le, lt)) d file w
   breaks_later h left i (looping lb brk lc turn) env k le x = λ n lt d file w. x n (omega (arith, le, lt)) d file w
 
   continues_later : (h : Here p most) (left i : ℕ) (j : Jumps) (env : source.Environment) (k : List source.Frame) → i ≤ left → Continues h left j env k → Continues h i j env k
   continues_later h left i outside env k le x = tt
+  continues_later h left i (breaking lb brk) env k le x = tt
   continues_later h left i (looping lb brk lc turn) env k le x = λ n lt d file w. x n (omega (arith, le, lt)) d file w
 
   pub ways_later : (h : Here p most) (left i : ℕ) (j : Jumps) (env : source.Environment) (k : List source.Frame) → i ≤ left → Ways h left j env k → Ways h i j env k
@@ -64,6 +70,8 @@ module _ (p : Setting) (most : ℕ) where
   -- past the rest of a block
   pub ways_rest : (h : Here p most) (left : ℕ) (j : Jumps) (env : source.Environment) (ss : List Stat) (k : List source.Frame) → Ways h left j env k → Ways h left j env (source.Continues ss ∷ k)
   ways_rest h left outside env ss k x = record { breaks = tt; continues = tt }
+  ways_rest h left (breaking lb brk) env ss k x =
+      record { breaks = λ i lt d file w. source_goes p refl (x.breaks i lt d file w); continues = tt }
   ways_rest h left (looping lb brk lc turn) env ss k x = record {
     breaks = λ i lt d file w. source_goes p refl (x.breaks i lt d file w);
     continues = λ i lt d file w. source_goes p refl (x.continues i lt d file w);
@@ -72,6 +80,8 @@ module _ (p : Setting) (most : ℕ) where
   -- past the end of a block, where the variables are those from before it
   pub ways_restored : (h : Here p most) (left : ℕ) (j : Jumps) (before : source.Environment) (k : List source.Frame) → Ways h left j before k → (env : source.Environment) → Ways h left j env (source.Restores before ∷ k)
   ways_restored h left outside before k x env = record { breaks = tt; continues = tt }
+  ways_restored h left (breaking lb brk) before k x env =
+      record { breaks = λ i lt d file w. source_goes p refl (x.breaks i lt d file w); continues = tt }
   ways_restored h left (looping lb brk lc turn) before k x env = record {
     breaks = λ i lt d file w. source_goes p refl (x.breaks i lt d file w);
     continues = λ i lt d file w. source_goes p refl (x.continues i lt d file w);
@@ -150,3 +160,12 @@ module _ (p : Setting) (most : ℕ) where
       (λ file2 w2.
       target_goes p (row_here p most h mid next file2 d (insn.Jump by) reads ∙ jump_is j (frame p most h mid file2) h.below_m d.code)
       (ways.continues left (omega arith) d file2 w2)))
+
+  -- `break` where no statement around it ends a turn
+  pub break_alone_same : (s : Stat) (by : ℤ) (h : Here p most) (l lb : List Slot) (brk from mid next : ℕ) (after : ℕ → List Slot) → out-StatKind s.kind ≡ level.Break → Closes h lb (λ l2. l2 ≡ l) from mid → Reads p most h mid (insn.Jump by) next → Forward mid by brk → StatRuns s h l (breaking lb brk) from next after
+  break_alone_same s by h l lb brk from mid next after kind c reads j left le k d file w ways go =
+      source_goes p (stat_row s _ h l k d kind)
+      (closes_same h lb (λ l2. l2 ≡ l) from mid left l _ d file c refl w
+      (λ file2 w2.
+      target_goes p (row_here p most h mid next file2 d (insn.Jump by) reads ∙ jump_is j (frame p most h mid file2) h.below_m d.code)
+      (ways.breaks left (omega arith) d file2 w2)))

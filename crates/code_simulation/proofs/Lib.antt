@@ -21,3 +21,5 @@ pub mod Outside
 pub mod Assigns
 pub mod Updates
 pub mod Numeric
+pub mod Repeats
+pub mod Concats
