@@ -23,3 +23,4 @@ pub mod Updates
 pub mod Numeric
 pub mod Repeats
 pub mod Concats
+pub mod Whole
