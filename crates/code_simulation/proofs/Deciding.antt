@@ -54,9 +54,11 @@ same_turned (Own i) (Own j) = eq_turned i j
 same_turned (Shared i) (Own j) = refl
 same_turned (Own i) (Shared j) = refl
 
-unmarked_is : (t u : TableRef) (ts : List TableRef) → list_any (same_table t) (filter (λ v. not (same_table u v)) ts) ≡ (not (same_table t u) && list_any (same_table t) ts)
+unmarked_is : (t u : TableRef) (ts : List TableRef) → list_any (same_table t) (filter (λ v. not (same_table u v)) ts) ≡
+    (not (same_table t u) && list_any (same_table t) ts)
 unmarked_is t u ts =
-    any-filter_same (same_table t) (λ v. not (same_table u v)) (not (same_table t u)) (λ v e. ap (λ x. not (same_table u x)) (sym (same_is t v e)) ∙ ap not (same_turned u t)) ts
+    any-filter_same (same_table t) (λ v. not (same_table u v)) (not (same_table t u))
+    (λ v e. ap (λ x. not (same_table u x)) (sym (same_is t v e)) ∙ ap not (same_turned u t)) ts
 
 tables_agree : (s g a : Bool) → (s && not (g || (a || false))) ≡ (not a && (s && not g))
 tables_agree true true true = refl
@@ -69,7 +71,10 @@ tables_agree false false true = refl
 tables_agree false false false = refl
 
 -- an environment that is given or taken is safe no more, on both sides
-pub safe_after : (e : Option TableRef) (given marked : List TableRef) (t : TableRef) → (same_table t script_environment && not (list_any (same_table t) given)) ≡ list_any (same_table t) marked → (same_table t script_environment && not (list_any (same_table t) (given ++ option_to_list e))) ≡ list_any (same_table t) (machine_calls.unmarked e marked)
+pub safe_after : (e : Option TableRef) (given marked : List TableRef) (t : TableRef)
+    → (same_table t script_environment && not (list_any (same_table t) given)) ≡ list_any (same_table t) marked
+    → (same_table t script_environment && not (list_any (same_table t) (given ++ option_to_list e))) ≡ list_any (same_table t)
+    (machine_calls.unmarked e marked)
 safe_after None given marked t h = ap (λ ts. same_table t script_environment && not (list_any (same_table t) ts)) (append_nil given) ∙ h
 safe_after (Some u) given marked t h =
     ap (λ b. same_table t script_environment && not b) (list_any-append (same_table t) given (u ∷ []))
@@ -97,7 +102,9 @@ base_decides {p} {d} a o = record {
 }
 
 -- where the same coroutine goes on, the states go together behind the decision
-pub ok_decides : {p : Setting} {turns co : ℕ} {ws : List Wait} {ds : List Desc} {d : Dyn} → (a : Waited) (ws' : List Wait) (ds' : List Desc) → here a.store ≡ co → co < length a.waits → waiting a.waits co ≡ ws' → AllRest co d.tag ds' → p.Others turns co (decides d a) → Ok p turns co ws ds d → Ok p turns co ws' ds' (decides d a)
+pub ok_decides : {p : Setting} {turns co : ℕ} {ws : List Wait} {ds : List Desc} {d : Dyn} → (a : Waited) (ws' : List Wait) (ds' : List Desc)
+    → here a.store ≡ co → co < length a.waits → waiting a.waits co ≡ ws' → AllRest co d.tag ds' → p.Others turns co (decides d a)
+    → Ok p turns co ws ds d → Ok p turns co ws' ds' (decides d a)
 ok_decides a ws' ds' running room waits rest others o =
     record { base = base_decides a o.base; running = running; room = room; waits = waits; rest = rest; others = others }
 
@@ -130,7 +137,8 @@ module _ (p : Setting) where
   abbrev pub Follows : ℕ → Answer → List source.Activation → List machine.Frame → Dyn → Type 0
   Follows left (Gives vs) fs ms d = AlikeOutside left (Hands vs) fs ms d
   Follows left (Enters c vs) fs ms d =
-      (b : source.Body) (m : machine.Body) → (a : FuncAlike p d.tag b m) → Alike p left (entered_s b.func b.env c vs fs d) (entered_m m.proto a.proto m.cells c vs ms d)
+      (b : source.Body) (m : machine.Body) → (a : FuncAlike p d.tag b m)
+      → Alike p left (entered_s b.func b.env c vs fs d) (entered_m m.proto a.proto m.cells c vs ms d)
   Follows left (Calls by f vs) fs ms d = AlikeOutside left (Invokes by f vs) fs ms d
   Follows left (Throws t) fs ms d = AlikeOutside left (thrown t) fs ms d
   Follows left (Stops x) fs ms d = Unit {0}
@@ -138,12 +146,18 @@ module _ (p : Setting) where
   Follows left (Dies v) fs ms d = Unit {0}
 
   -- a turn is charged, or an event is shown, or neither
-  to_same : (charged : Bool) (event : Option EventKind) (left : ℕ) (s' : source.State) (m' : machine.State) → Later charged left (λ l. Alike p l s' m') → (s : source.State) (m : machine.State) → source_steps.step p.texts s ≡ source_calls.to charged event s' → machine_steps.step p.chunk m ≡ machine_calls.to charged event m' → Alike p left s m
+  to_same : (charged : Bool) (event : Option EventKind) (left : ℕ) (s' : source.State) (m' : machine.State)
+      → Later charged left (λ l. Alike p l s' m') → (s : source.State) (m : machine.State)
+      → source_steps.step p.texts s ≡ source_calls.to charged event s' → machine_steps.step p.chunk m ≡ machine_calls.to charged event m'
+      → Alike p left s m
   to_same true event left s' m' go s m e f = both_charge p left e f go
   to_same false (Some x) left s' m' go s m e f = both_show p e f go
   to_same false None left s' m' go s m e f = source_goes p e (target_goes p f go)
 
-  thrown_same : (t : Thrown) (charged : Bool) (event : Option EventKind) (left : ℕ) (fs : List source.Activation) (ms : List machine.Frame) (d : Dyn) → Later charged left (λ l. AlikeOutside l (thrown t) fs ms d) → (s : source.State) (m : machine.State) → source_steps.step p.texts s ≡ source_calls.to charged event (source_calls.state_with (source_calls.thrown t) fs d.script) → machine_steps.step p.chunk m ≡ machine_calls.to charged event (machine_calls.state_with (machine_calls.thrown t) ms d.code) → Alike p left s m
+  thrown_same : (t : Thrown) (charged : Bool) (event : Option EventKind) (left : ℕ) (fs : List source.Activation) (ms : List machine.Frame) (d : Dyn)
+      → Later charged left (λ l. AlikeOutside l (thrown t) fs ms d) → (s : source.State) (m : machine.State)
+      → source_steps.step p.texts s ≡ source_calls.to charged event (source_calls.state_with (source_calls.thrown t) fs d.script)
+      → machine_steps.step p.chunk m ≡ machine_calls.to charged event (machine_calls.state_with (machine_calls.thrown t) ms d.code) → Alike p left s m
   thrown_same (Fails x) charged event left fs ms d go s m e f = to_same charged event left _ _ go s m e f
   thrown_same (waits.Raises v origin) charged event left fs ms d go s m e f = to_same charged event left _ _ go s m e f
 
@@ -153,19 +167,28 @@ module _ (p : Setting) where
   later_by true left g x = λ fewer e. g fewer (x fewer e)
 
   -- a closure that is entered has a body on both sides, or on neither
-  enters_same : (c : ℕ) (vs : List Value) (charged : Bool) (event : Option EventKind) (left : ℕ) (fs : List source.Activation) (ms : List machine.Frame) (d : Dyn) → Base p d → Later charged left (λ l. Follows l (Enters c vs) fs ms d) → (o : Option source.Body) → slice_get (bodies_s d) c ≡ o → (s : source.State) (m : machine.State) → source_steps.step p.texts s ≡ source_calls.follows (Enters c vs) (source_calls.to charged event) fs d.script → machine_steps.step p.chunk m ≡ machine_calls.follows p.chunk (Enters c vs) (machine_calls.to charged event) ms d.code → Alike p left s m
+  enters_same : (c : ℕ) (vs : List Value) (charged : Bool) (event : Option EventKind) (left : ℕ) (fs : List source.Activation)
+      (ms : List machine.Frame) (d : Dyn) → Base p d → Later charged left (λ l. Follows l (Enters c vs) fs ms d) → (o : Option source.Body)
+      → slice_get (bodies_s d) c ≡ o → (s : source.State) (m : machine.State)
+      → source_steps.step p.texts s ≡ source_calls.follows (Enters c vs) (source_calls.to charged event) fs d.script
+      → machine_steps.step p.chunk m ≡ machine_calls.follows p.chunk (Enters c vs) (machine_calls.to charged event) ms d.code → Alike p left s m
   enters_same c vs charged event left fs ms d base go None found s m e f =
       both_stop p
       (e ∙ ap (λ o. source_calls.entered (source_calls.enter o c vs fs d.script) (source_calls.to charged event)) found)
-      (f ∙ ap (λ o. machine_calls.entered (machine_calls.enter p.chunk o c vs ms d.code) (machine_calls.to charged event)) (slice_get_past (bodies_m d) c (let le = get_none (bodies_s d) c found in omega (arith, le, base.made))))
+      (f ∙ ap (λ o. machine_calls.entered (machine_calls.enter p.chunk o c vs ms d.code) (machine_calls.to charged event))
+      (slice_get_past (bodies_m d) c (let le = get_none (bodies_s d) c found in omega (arith, le, base.made))))
   enters_same c vs charged event left fs ms d base go (Some b) found s m e f =
       let r = base.alike c b found in
-      to_same charged event left (entered_s b.func b.env c vs fs d) (entered_m r.0.proto r.2.proto r.0.cells c vs ms d) (later_by charged left (λ l x. x b r.0 r.2) go) s m
+      to_same charged event left (entered_s b.func b.env c vs fs d) (entered_m r.0.proto r.2.proto r.0.cells c vs ms d)
+      (later_by charged left (λ l x. x b r.0 r.2) go) s m
       (e ∙ ap (λ o. source_calls.entered (source_calls.enter o c vs fs d.script) (source_calls.to charged event)) found)
       (f ∙ ap (λ o. machine_calls.entered (machine_calls.enter p.chunk o c vs ms d.code) (machine_calls.to charged event)) r.1
       ∙ ap (λ o. machine_calls.entered (machine_calls.begun o r.0 c vs ms d.code) (machine_calls.to charged event)) r.2.coded.found)
 
-  follows_same : (a : Answer) (charged : Bool) (event : Option EventKind) (left : ℕ) (fs : List source.Activation) (ms : List machine.Frame) (d : Dyn) → Base p d → Later charged left (λ l. Follows l a fs ms d) → (s : source.State) (m : machine.State) → source_steps.step p.texts s ≡ source_calls.follows a (source_calls.to charged event) fs d.script → machine_steps.step p.chunk m ≡ machine_calls.follows p.chunk a (machine_calls.to charged event) ms d.code → Alike p left s m
+  follows_same : (a : Answer) (charged : Bool) (event : Option EventKind) (left : ℕ) (fs : List source.Activation) (ms : List machine.Frame) (d : Dyn)
+      → Base p d → Later charged left (λ l. Follows l a fs ms d) → (s : source.State) (m : machine.State)
+      → source_steps.step p.texts s ≡ source_calls.follows a (source_calls.to charged event) fs d.script
+      → machine_steps.step p.chunk m ≡ machine_calls.follows p.chunk a (machine_calls.to charged event) ms d.code → Alike p left s m
   follows_same (Gives vs) charged event left fs ms d base go s m e f = to_same charged event left _ _ go s m e f
   follows_same (Enters c vs) charged event left fs ms d base go s m e f =
       enters_same c vs charged event left fs ms d base go (slice_get (bodies_s d) c) refl s m e f
@@ -178,16 +201,24 @@ module _ (p : Setting) where
       both_stop p (e ∙ ap (λ (st : Store). Ends [] (Raised (name_of st.globals v))) base.store) f
 
   -- What was decided leads on alike, where the same coroutine goes on
-  pub decided_same : (a : Waited) (co left : ℕ) (fs : List source.Activation) (ms : List machine.Frame) (d : Dyn) → here (store_s d) ≡ co → here a.store ≡ co → Base p d → Later a.charged left (λ l. Follows l a.answer fs ms (decides d a)) → (s : source.State) (m : machine.State) → source_steps.step p.texts s ≡ source_calls.decided a fs d.script → machine_steps.step p.chunk m ≡ machine_calls.decided p.chunk a ms d.code → Alike p left s m
+  pub decided_same : (a : Waited) (co left : ℕ) (fs : List source.Activation) (ms : List machine.Frame) (d : Dyn) → here (store_s d) ≡ co
+      → here a.store ≡ co → Base p d → Later a.charged left (λ l. Follows l a.answer fs ms (decides d a)) → (s : source.State) (m : machine.State)
+      → source_steps.step p.texts s ≡ source_calls.decided a fs d.script → machine_steps.step p.chunk m ≡ machine_calls.decided p.chunk a ms d.code
+      → Alike p left s m
   decided_same a co left fs ms d from next base go s m e f =
       let same_s : nat_eq (here (store_s d)) (here a.store) ≡ true = eq-eqb (here (store_s d)) (here a.store) (from ∙ sym next) in
       let same_m : nat_eq (here (store_m d)) (here a.store) ≡ true = eq-eqb (here (store_m d)) (here a.store) (ap here (sym base.store) ∙ from ∙ sym next) in
       follows_same a.answer a.charged a.event left fs ms (decides d a) (base_decides a base) go s m
-      (e ∙ ap (λ b. source_calls.follows a.answer (source_calls.to a.charged a.event) (source_calls.switched b (here (store_s d)) (here a.store) fs (source_calls.world_after a d.script)).0 (source_calls.switched b (here (store_s d)) (here a.store) fs (source_calls.world_after a d.script)).1) same_s)
-      (f ∙ ap (λ b. machine_calls.follows p.chunk a.answer (machine_calls.to a.charged a.event) (machine_calls.switched b (here (store_m d)) (here a.store) ms (machine_calls.world_after a d.code)).0 (machine_calls.switched b (here (store_m d)) (here a.store) ms (machine_calls.world_after a d.code)).1) same_m)
+      (e ∙ ap (λ b. source_calls.follows a.answer (source_calls.to a.charged a.event)
+      (source_calls.switched b (here (store_s d)) (here a.store) fs (source_calls.world_after a d.script)).0
+      (source_calls.switched b (here (store_s d)) (here a.store) fs (source_calls.world_after a d.script)).1) same_s)
+      (f ∙ ap (λ b. machine_calls.follows p.chunk a.answer (machine_calls.to a.charged a.event)
+      (machine_calls.switched b (here (store_m d)) (here a.store) ms (machine_calls.world_after a d.code)).0
+      (machine_calls.switched b (here (store_m d)) (here a.store) ms (machine_calls.world_after a d.code)).1) same_m)
 
   -- Both ask the same of what waits, since the stores, what waits and the replies are the same
-  pub asked_alike : (c : Case) (d : Dyn) → Base p d → wait d.code.waits (store_m d) c (slice_get d.code.replies 0) ≡ wait d.script.waits (store_s d) c (slice_get d.script.replies 0)
+  pub asked_alike : (c : Case) (d : Dyn) → Base p d → wait d.code.waits (store_m d) c (slice_get d.code.replies 0) ≡ wait d.script.waits (store_s d) c
+      (slice_get d.script.replies 0)
   asked_alike c d base =
       ap (λ ws. wait ws (store_m d) c (slice_get d.code.replies 0)) (sym base.waits)
       ∙ ap (λ s. wait d.script.waits s c (slice_get d.code.replies 0)) (sym base.store)

@@ -39,7 +39,8 @@ counts_more (suc c) n base top e = ap suc e
 -- all values of the expression are its one value
 abbrev pub IsSingle : Expr → Type 0
 IsSingle e =
-    (h : source_moves.Here) (k : List source.Frame) (env : source.Environment) (w : source.World) → expressions.begin_all (out-ExprKind e.kind) e h k env w ≡ source_moves.now (source.Evaluate e) h (source.Only ∷ k) env w
+    (h : source_moves.Here) (k : List source.Frame) (env : source.Environment) (w : source.World)
+    → expressions.begin_all (out-ExprKind e.kind) e h k env w ≡ source_moves.now (source.Evaluate e) h (source.Only ∷ k) env w
 
 module _ (p : Setting) (most : ℕ) where
   -- nil in so many registers from one on
@@ -47,7 +48,10 @@ module _ (p : Setting) (most : ℕ) where
   LoadsNils h place to zero next = place ≡ next
   LoadsNils h place to (suc n) next = (mid : ℕ) × Loads p most h place to Nil mid × LoadsNils h mid (suc to) n next
 
-  pub nils_same : (n from to : ℕ) (h : Here p most) (l : List Slot) (left : ℕ) (s : source.State) (d : Dyn) (file : File) → LoadsNils h from (length l) n to → Has p most h left l d file → ((file' : File) → Has p most h left (temps (machine.adjusted n []) l) d file' → Steady l file.registers file'.registers → Alike p left s (machine_at p most h to file' d)) → Alike p left s (machine_at p most h from file d)
+  pub nils_same : (n from to : ℕ) (h : Here p most) (l : List Slot) (left : ℕ) (s : source.State) (d : Dyn) (file : File)
+      → LoadsNils h from (length l) n to → Has p most h left l d file
+      → ((file' : File) → Has p most h left (temps (machine.adjusted n []) l) d file' → Steady l file.registers file'.registers
+      → Alike p left s (machine_at p most h to file' d)) → Alike p left s (machine_at p most h from file d)
   nils_same zero from to h l left s d file st w go =
       subst (λ n. Alike p left s (machine_at p most h n file d)) (sym st) (go file w (steady_all l file.registers))
   nils_same (suc n) from to h l left s d file st w go =
@@ -60,35 +64,40 @@ module _ (p : Setting) (most : ℕ) where
   -- ---- all values of one expression
 
   -- of one that gives one value
-  pub single_all : (e : Expr) (h : Here p most) (l : List Slot) (from to : ℕ) → IsSingle e → ExprRuns p most e h l from to → AllRuns p most e h l from to 2 (λ vs. vs)
+  pub single_all : (e : Expr) (h : Here p most) (l : List Slot) (from to : ℕ) → IsSingle e → ExprRuns p most e h l from to
+      → AllRuns p most e h l from to 2 (λ vs. vs)
   single_all e h l from to single runs left le k d file w go =
       source_goes p (single (inside p most h) k (env_of p most h l) d.script)
       (runs left le (source.Only ∷ k) d file w
       (λ i lt v d2 file2 w2 steady. source_goes p refl (go i lt (v ∷ []) d2 file2 w2 refl steady)))
 
   -- of `...`
-  pub vararg_all : (e : Expr) (count : ℕ) (h : Here p most) (l : List Slot) (from to : ℕ) → out-ExprKind e.kind ≡ level.Vararg → Reads p most h from (insn.GetVarargs (length l) count) to → AllRuns p most e h l from to 0 (wanted count)
+  pub vararg_all : (e : Expr) (count : ℕ) (h : Here p most) (l : List Slot) (from to : ℕ) → out-ExprKind e.kind ≡ level.Vararg
+      → Reads p most h from (insn.GetVarargs (length l) count) to → AllRuns p most e h l from to 0 (wanted count)
   vararg_all e count h l from to kind reads left le k d file w go =
       source_goes p (ap (λ (y : ExprLevel). expressions.begin_all y e (inside p most h) k (env_of p most h l) d.script) kind)
       (target_goes p
       (row_here p most h from to file d (insn.GetVarargs (length l) count) reads
       ∙ results_is p most h machine.Idle (length l) count to from h.varargs file d
       ∙ deliver_is p most h machine.Idle l to from (wanted count h.varargs) file d w)
-      (go left (omega arith) h.varargs d (delivered_file p most h l (wanted count h.varargs) file) (delivered p most h l (wanted count h.varargs) file d w) refl (delivered_steady p most h l (wanted count h.varargs) file)))
+      (go left (omega arith) h.varargs d (delivered_file p most h l (wanted count h.varargs) file)
+      (delivered p most h l (wanted count h.varargs) file d w) refl (delivered_steady p most h l (wanted count h.varargs) file)))
 
   adjusted_one : (vs : List Value) → machine.adjusted 1 vs ≡ source_moves.first vs ∷ []
   adjusted_one [] = refl
   adjusted_one (v ∷ vs) = refl
 
   -- `...` as one value
-  pub vararg_same : (e : Expr) (h : Here p most) (l : List Slot) (from to : ℕ) → out-ExprKind e.kind ≡ level.Vararg → Reads p most h from (insn.GetVarargs (length l) 2) to → ExprRuns p most e h l from to
+  pub vararg_same : (e : Expr) (h : Here p most) (l : List Slot) (from to : ℕ) → out-ExprKind e.kind ≡ level.Vararg
+      → Reads p most h from (insn.GetVarargs (length l) 2) to → ExprRuns p most e h l from to
   vararg_same e h l from to kind reads left le k d file w go =
       source_goes p (ap (λ (y : ExprLevel). expressions.begin p.texts y (of_expr e) (inside p most h) k (env_of p most h l) d.script) kind)
       (target_goes p
       (row_here p most h from to file d (insn.GetVarargs (length l) 2) reads
       ∙ deliver_is p most h machine.Idle l to from (machine.adjusted 1 h.varargs) file d w)
       (go left (omega arith) (source_moves.first h.varargs) d (delivered_file p most h l (machine.adjusted 1 h.varargs) file)
-      (subst (λ vs. Has p most h left (temps vs l) d (delivered_file p most h l (machine.adjusted 1 h.varargs) file)) (adjusted_one h.varargs) (delivered p most h l (machine.adjusted 1 h.varargs) file d w))
+      (subst (λ vs. Has p most h left (temps vs l) d (delivered_file p most h l (machine.adjusted 1 h.varargs) file)) (adjusted_one h.varargs)
+      (delivered p most h l (machine.adjusted 1 h.varargs) file d w))
       (delivered_steady p most h l (machine.adjusted 1 h.varargs) file)))
 
   -- ---- lists
@@ -100,14 +109,18 @@ module _ (p : Setting) (most : ℕ) where
       (go left (omega arith) [] d file w refl (steady_all l file.registers))
 
   -- the last expression
-  pub list_last : (e : Expr) (count : ℕ) (take : List Value → List Value) (h : Here p most) (l : List Slot) (from to : ℕ) → AllRuns p most e h l from to count take → ListRuns p most (e ∷ []) h l from to count take
+  pub list_last : (e : Expr) (count : ℕ) (take : List Value → List Value) (h : Here p most) (l : List Slot) (from to : ℕ)
+      → AllRuns p most e h l from to count take → ListRuns p most (e ∷ []) h l from to count take
   list_last e count take h l from to runs left le got k d file s row w go =
       source_goes p row
       (runs left le (source.Last got ∷ k) d file w
       (λ i lt vs d2 file2 w2 c steady. source_goes p refl (go i lt vs d2 file2 w2 c steady)))
 
   -- one before others, whose value stays in its register
-  pub list_more : (e f : Expr) (es : List Expr) (count : ℕ) (take take_more : List Value → List Value) (h : Here p most) (l : List Slot) (from mid to : ℕ) → ((v : Value) (vs : List Value) → take_more (v ∷ vs) ≡ v ∷ take vs) → ExprRuns p most e h l from mid → ((v : Value) → ListRuns p most (f ∷ es) h (Temp v ∷ l) mid to count take) → ListRuns p most (e ∷ f ∷ es) h l from to (one_more count) take_more
+  pub list_more : (e f : Expr) (es : List Expr) (count : ℕ) (take take_more : List Value → List Value) (h : Here p most) (l : List Slot)
+      (from mid to : ℕ) → ((v : Value) (vs : List Value) → take_more (v ∷ vs) ≡ v ∷ take vs) → ExprRuns p most e h l from mid
+      → ((v : Value) → ListRuns p most (f ∷ es) h (Temp v ∷ l) mid to count take)
+      → ListRuns p most (e ∷ f ∷ es) h l from to (one_more count) take_more
   list_more e f es count take take_more h l from mid to takes runs rest_runs left le got k d file s row w go =
       source_goes p row
       (runs left le (source.Item got (f ∷ es) ∷ k) d file w
@@ -121,7 +134,8 @@ module _ (p : Setting) (most : ℕ) where
       (steady_on l _ _ _ steady steady2)))))
 
   -- one before others, whose value nobody wants
-  pub list_dropped : (e f : Expr) (es : List Expr) (h : Here p most) (l : List Slot) (from mid to : ℕ) → ExprRuns p most e h l from mid → ListRuns p most (f ∷ es) h l mid to 1 (machine.adjusted 0) → ListRuns p most (e ∷ f ∷ es) h l from to 1 (machine.adjusted 0)
+  pub list_dropped : (e f : Expr) (es : List Expr) (h : Here p most) (l : List Slot) (from mid to : ℕ) → ExprRuns p most e h l from mid
+      → ListRuns p most (f ∷ es) h l mid to 1 (machine.adjusted 0) → ListRuns p most (e ∷ f ∷ es) h l from to 1 (machine.adjusted 0)
   list_dropped e f es h l from mid to runs rest_runs left le got k d file s row w go =
       source_goes p row
       (runs left le (source.Item got (f ∷ es) ∷ k) d file w
@@ -133,21 +147,24 @@ module _ (p : Setting) (most : ℕ) where
 
   -- ---- so many values of a list, where fewer are filled up with nil
 
-  pub exact_none : (n : ℕ) (h : Here p most) (l : List Slot) (from to : ℕ) → LoadsNils h from (length l) n to → ListRuns p most [] h l from to (suc n) (machine.adjusted n)
+  pub exact_none : (n : ℕ) (h : Here p most) (l : List Slot) (from to : ℕ) → LoadsNils h from (length l) n to
+      → ListRuns p most [] h l from to (suc n) (machine.adjusted n)
   exact_none n h l from to nils left le got k d file s e w go =
       source_goes p (e ∙ ap (λ vs. source_moves.now (source.GiveAll vs) (inside p most h) k (env_of p most h l) d.script) (sym (append_nil got)))
       (nils_same n from to h l left _ d file nils w
       (λ file2 w2 steady. go left (omega arith) [] d file2 w2 (sym (length_adjusted n [])) steady))
 
   -- the last expression gives as many values as are wanted
-  pub exact_many : (e : Expr) (n : ℕ) (h : Here p most) (l : List Slot) (from to : ℕ) → AllRuns p most e h l from to 0 (wanted (suc n)) → ListRuns p most (e ∷ []) h l from to (suc n) (machine.adjusted n)
+  pub exact_many : (e : Expr) (n : ℕ) (h : Here p most) (l : List Slot) (from to : ℕ) → AllRuns p most e h l from to 0 (wanted (suc n))
+      → ListRuns p most (e ∷ []) h l from to (suc n) (machine.adjusted n)
   exact_many e n h l from to runs left le got k d file s row w go =
       source_goes p row
       (runs left le (source.Last got ∷ k) d file w
       (λ i lt vs d2 file2 w2 c steady. source_goes p refl (go i lt vs d2 file2 w2 (sym (length_adjusted n vs)) steady)))
 
   -- it gives one, and nil is loaded for the others
-  pub exact_single : (e : Expr) (n : ℕ) (h : Here p most) (l : List Slot) (from mid to : ℕ) → IsSingle e → ExprRuns p most e h l from mid → LoadsNils h mid (suc (length l)) n to → ListRuns p most (e ∷ []) h l from to (suc (suc n)) (machine.adjusted (suc n))
+  pub exact_single : (e : Expr) (n : ℕ) (h : Here p most) (l : List Slot) (from mid to : ℕ) → IsSingle e → ExprRuns p most e h l from mid
+      → LoadsNils h mid (suc (length l)) n to → ListRuns p most (e ∷ []) h l from to (suc (suc n)) (machine.adjusted (suc n))
   exact_single e n h l from mid to single runs nils left le got k d file s row w go =
       source_goes p row
       (source_goes p (single (inside p most h) (source.Last got ∷ k) (env_of p most h l) d.script)
@@ -159,7 +176,8 @@ module _ (p : Setting) (most : ℕ) where
       (λ file3 w3 steady2. go i lt (v ∷ []) d2 file3 w3 (ap suc (sym (length_adjusted n []))) (steady_on l _ _ _ steady steady2)))))))
 
   -- it gives one, which nobody wants
-  pub exact_dropped : (e : Expr) (h : Here p most) (l : List Slot) (from to : ℕ) → IsSingle e → ExprRuns p most e h l from to → ListRuns p most (e ∷ []) h l from to 1 (machine.adjusted 0)
+  pub exact_dropped : (e : Expr) (h : Here p most) (l : List Slot) (from to : ℕ) → IsSingle e → ExprRuns p most e h l from to
+      → ListRuns p most (e ∷ []) h l from to 1 (machine.adjusted 0)
   exact_dropped e h l from to single runs left le got k d file s row w go =
       source_goes p row
       (source_goes p (single (inside p most h) (source.Last got ∷ k) (env_of p most h l) d.script)
@@ -168,6 +186,8 @@ module _ (p : Setting) (most : ℕ) where
       source_goes p refl (source_goes p refl (go i lt (v ∷ []) d2 file2 (pop w2) refl steady)))))
 
   -- one before others: its value is the first of those that are wanted
-  pub exact_more : (e f : Expr) (es : List Expr) (n : ℕ) (h : Here p most) (l : List Slot) (from mid to : ℕ) → ExprRuns p most e h l from mid → ((v : Value) → ListRuns p most (f ∷ es) h (Temp v ∷ l) mid to (suc n) (machine.adjusted n)) → ListRuns p most (e ∷ f ∷ es) h l from to (suc (suc n)) (machine.adjusted (suc n))
+  pub exact_more : (e f : Expr) (es : List Expr) (n : ℕ) (h : Here p most) (l : List Slot) (from mid to : ℕ) → ExprRuns p most e h l from mid
+      → ((v : Value) → ListRuns p most (f ∷ es) h (Temp v ∷ l) mid to (suc n) (machine.adjusted n))
+      → ListRuns p most (e ∷ f ∷ es) h l from to (suc (suc n)) (machine.adjusted (suc n))
   exact_more e f es n h l from mid to runs rest_runs =
       list_more e f es (suc n) (machine.adjusted n) (machine.adjusted (suc n)) h l from mid to (λ v vs. refl) runs rest_runs

@@ -29,21 +29,28 @@ module _ (p : Setting) where
   target_goes e a = together.target_goes _ _ _ _ _ _ _ _ _ e a
 
   -- both move, and ask as many tables
-  pub both_ask : {left : ℕ} {s s' : source.State} {m m' : machine.State} (n : ℕ) (x : source_moves.Look) → source_steps.step p.texts s ≡ Goes (replicate n x) s' → machine_steps.step p.chunk m ≡ Goes (replicate n machine_moves.asked) m' → Alike p left s' m' → Alike p left s m
+  pub both_ask : {left : ℕ} {s s' : source.State} {m m' : machine.State} (n : ℕ) (x : source_moves.Look)
+      → source_steps.step p.texts s ≡ Goes (replicate n x) s' → machine_steps.step p.chunk m ≡ Goes (replicate n machine_moves.asked) m'
+      → Alike p left s' m' → Alike p left s m
   both_ask n x e d a = together.both_go _ _ _ _ _ _ _ _ _ e d (count n x ∙ sym (count n machine_moves.asked)) a
 
   -- both charge a turn
-  pub both_charge : (left : ℕ) {s s' : source.State} {m m' : machine.State} → source_steps.step p.texts s ≡ Charges s' → machine_steps.step p.chunk m ≡ Charges m' → ((fewer : ℕ) → left ≡ suc fewer → Alike p fewer s' m') → Alike p left s m
+  pub both_charge : (left : ℕ) {s s' : source.State} {m m' : machine.State} → source_steps.step p.texts s ≡ Charges s'
+      → machine_steps.step p.chunk m ≡ Charges m' → ((fewer : ℕ) → left ≡ suc fewer → Alike p fewer s' m') → Alike p left s m
   both_charge left e d a = together.both_charge _ _ _ _ _ _ _ _ _ left e d a
 
   -- both show the same
-  pub both_show : {left : ℕ} {event : EventKind} {s s' : source.State} {m m' : machine.State} → source_steps.step p.texts s ≡ Shows [] event s' → machine_steps.step p.chunk m ≡ Shows [] event m' → Alike p left s' m' → Alike p left s m
+  pub both_show : {left : ℕ} {event : EventKind} {s s' : source.State} {m m' : machine.State} → source_steps.step p.texts s ≡ Shows [] event s'
+      → machine_steps.step p.chunk m ≡ Shows [] event m' → Alike p left s' m' → Alike p left s m
   both_show e d a = together.both_show _ _ _ _ _ _ _ _ _ e d refl a
 
   -- both end, and have asked as many tables
-  pub both_end : {left : ℕ} {end : End} {s : source.State} {m : machine.State} (n : ℕ) (x : source_moves.Look) → source_steps.step p.texts s ≡ Ends (replicate n x) end → machine_steps.step p.chunk m ≡ Ends (replicate n machine_moves.asked) end → Alike p left s m
+  pub both_end : {left : ℕ} {end : End} {s : source.State} {m : machine.State} (n : ℕ) (x : source_moves.Look)
+      → source_steps.step p.texts s ≡ Ends (replicate n x) end → machine_steps.step p.chunk m ≡ Ends (replicate n machine_moves.asked) end
+      → Alike p left s m
   both_end n x e d = together.both_end _ _ _ _ _ _ _ _ _ e d (count n x ∙ sym (count n machine_moves.asked))
 
   -- both end, and have asked nothing
-  pub both_stop : {left : ℕ} {end : End} {s : source.State} {m : machine.State} → source_steps.step p.texts s ≡ Ends [] end → machine_steps.step p.chunk m ≡ Ends [] end → Alike p left s m
+  pub both_stop : {left : ℕ} {end : End} {s : source.State} {m : machine.State} → source_steps.step p.texts s ≡ Ends [] end
+      → machine_steps.step p.chunk m ≡ Ends [] end → Alike p left s m
   both_stop e d = together.both_end _ _ _ _ _ _ _ _ _ e d refl

@@ -20,7 +20,8 @@ none_some e = cc
 -- ---- found by name
 
 -- the newest variable is the one, or it is found below
-pub local_cases : (y x : StrId) (r : Local) (rest : Option Local) (o : Local) → (if nat_eq y.0 x.0 then Some r else rest) ≡ Some o → ((nat_eq y.0 x.0 ≡ true) × (r ≡ o)) ⊎ ((nat_eq y.0 x.0 ≡ false) × (rest ≡ Some o))
+pub local_cases : (y x : StrId) (r : Local) (rest : Option Local) (o : Local) → (if nat_eq y.0 x.0 then Some r else rest) ≡ Some o
+    → ((nat_eq y.0 x.0 ≡ true) × (r ≡ o)) ⊎ ((nat_eq y.0 x.0 ≡ false) × (rest ≡ Some o))
 local_cases y x r rest o e =
     ⊎_elim
     (λ t. inl (t.0, same_some (ap (λ b. cond b (Some r) rest) (sym t.0) ∙ e)))
@@ -98,7 +99,8 @@ local_temps [] l x = refl
 local_temps (v ∷ vs) l x = local_temps vs (Temp v ∷ l) x
 
 -- the script's environment with new variables is that of the slots with these
-pub binds_vars : (captured : ℕ → Bool) (xs : List StrId) (c : ℕ) (l : List Slot) (outer : Environment) → bound xs c (binds l ++ outer) ≡ binds (vars captured xs c l) ++ outer
+pub binds_vars : (captured : ℕ → Bool) (xs : List StrId) (c : ℕ) (l : List Slot) (outer : Environment)
+    → bound xs c (binds l ++ outer) ≡ binds (vars captured xs c l) ++ outer
 binds_vars captured [] c l outer = refl
 binds_vars captured (x ∷ xs) c l outer =
     ap (λ n. bound xs n ((x, c) ∷ (binds l ++ outer))) (omega arith)
@@ -181,7 +183,8 @@ pub steady_temps : (vs : List Value) (l : List Slot) (a b : Registers) → Stead
 steady_temps vs l a b s = steady_less a b (above_temps vs l) s
 
 -- a variable's register
-pub steady_at : (l : List Slot) (a b : Registers) (x : StrId) (o : Local) → local_at l x ≡ Some o → o.captured ≡ false → Steady l a b → b o.register ≡ a o.register
+pub steady_at : (l : List Slot) (a b : Registers) (x : StrId) (o : Local) → local_at l x ≡ Some o → o.captured ≡ false → Steady l a b
+    → b o.register ≡ a o.register
 steady_at [] a b x o e plain s = none_some e
 steady_at (Temp v ∷ l) a b x o e plain s = steady_at l a b x o e plain s
 steady_at (Var y c cap ∷ l) a b x o e plain s =
@@ -191,12 +194,17 @@ steady_at (Var y c cap ∷ l) a b x o e plain s =
     (local_cases y x _ (local_at l x) o e)
 
 -- a write to the register of a variable that may be captured
-pub steady_captured : (l : List Slot) (regs : Registers) (x : StrId) (o : Local) (v : Register) → local_at l x ≡ Some o → o.captured ≡ true → Steady l regs (put regs o.register v)
+pub steady_captured : (l : List Slot) (regs : Registers) (x : StrId) (o : Local) (v : Register) → local_at l x ≡ Some o → o.captured ≡ true
+    → Steady l regs (put regs o.register v)
 steady_captured [] regs x o v e cap = tt
 steady_captured (Temp w ∷ l) regs x o v e cap = steady_captured l regs x o v e cap
 steady_captured (Var y c capy ∷ l) regs x o v e cap =
     ⊎_elim
-    (λ t. (λ plain. absurd (false≢true (sym plain ∙ ap (λ z. z.captured) t.1 ∙ cap)), subst (λ r. Steady l regs (put regs r v)) (ap (λ z. z.register) t.1) (steady_put l regs (length l) v (omega arith))))
+    (λ t. (
+      λ plain. absurd (false≢true (sym plain ∙ ap (λ z. z.captured) t.1 ∙ cap)),
+      subst (λ r. Steady l regs (put regs r v))
+          (ap (λ z. z.register) t.1) (steady_put l regs (length l) v (omega arith)),
+    ))
     (λ t. let b = below l x o t.1 in
     (λ plain. put_other regs o.register v (length l) (omega arith), steady_captured l regs x o v t.1 cap))
     (local_cases y x _ (local_at l x) o e)

@@ -20,7 +20,8 @@ unmoved s = record { running = refl; coroutines = refl }
 abbrev LinkKeeps : Store → Link → Type 0
 LinkKeeps s link = (n : ℕ) (v : Value) → Unmoved s (link n v).store
 
-by_kind : (s : Store) (link : Link) → LinkKeeps s link → (asked : ℕ) (h : Value) (o : Outcome) (b : Bool) → Unmoved s (elim b as (λ b. Choice) [ true ↦ chosen s asked o | false ↦ link asked h ]).store
+by_kind : (s : Store) (link : Link) → LinkKeeps s link → (asked : ℕ) (h : Value) (o : Outcome) (b : Bool)
+    → Unmoved s (elim b as (λ b. Choice) [ true ↦ chosen s asked o | false ↦ link asked h ]).store
 by_kind s link keeps asked h o true = unmoved s
 by_kind s link keeps asked h o false = keeps asked h
 
@@ -28,11 +29,13 @@ by_index_keeps : (s : Store) (link : Link) → LinkKeeps s link → (asked : ℕ
 by_index_keeps s link keeps asked t key Nil = unmoved s
 by_index_keeps s link keeps asked t key h = by_kind s link keeps asked h (CallThis h (Table t ∷ key ∷ [])) (is_function h)
 
-index_found_keeps : (s : Store) (link : Link) → LinkKeeps s link → (asked : ℕ) (t : TableRef) (key found : Value) → Unmoved s (index_found s link asked t key found).store
+index_found_keeps : (s : Store) (link : Link) → LinkKeeps s link → (asked : ℕ) (t : TableRef) (key found : Value)
+    → Unmoved s (index_found s link asked t key found).store
 index_found_keeps s link keeps asked t key Nil = by_index_keeps s link keeps asked t key (metamethod s (Table t) (codes "__index"))
 index_found_keeps s link keeps asked t key v = unmoved s
 
-index_asked_keeps : (s : Store) (link : Link) → LinkKeeps s link → (asked : ℕ) (base key : Value) (o : Option TableRef) → Unmoved s (index_asked s link asked base key o).store
+index_asked_keeps : (s : Store) (link : Link) → LinkKeeps s link → (asked : ℕ) (base key : Value) (o : Option TableRef)
+    → Unmoved s (index_asked s link asked base key o).store
 index_asked_keeps s link keeps asked base key None = unmoved s
 index_asked_keeps s link keeps asked base key (Some t) =
     index_found_keeps s link keeps (suc asked) t key (get (table_at s t) key)
@@ -53,16 +56,19 @@ write_raw_keeps : (s : Store) (asked : ℕ) (t : TableRef) (r : Result TableOf R
 write_raw_keeps s asked t (Ok x) = table_keeps s t x
 write_raw_keeps s asked t (Err e) = unmoved s
 
-by_newindex_keeps : (s : Store) (link : Link) → LinkKeeps s link → (asked : ℕ) (t : TableRef) (key v h : Value) → Unmoved s (by_newindex s link asked t key v h).store
+by_newindex_keeps : (s : Store) (link : Link) → LinkKeeps s link → (asked : ℕ) (t : TableRef) (key v h : Value)
+    → Unmoved s (by_newindex s link asked t key v h).store
 by_newindex_keeps s link keeps asked t key v Nil = write_raw_keeps s asked t (set (table_at s t) key v)
 by_newindex_keeps s link keeps asked t key v h = by_kind s link keeps asked h (CallThis h (Table t ∷ key ∷ v ∷ [])) (is_function h)
 
-newindex_found_keeps : (s : Store) (link : Link) → LinkKeeps s link → (asked : ℕ) (t : TableRef) (key v found : Value) → Unmoved s (newindex_found s link asked t key v found).store
+newindex_found_keeps : (s : Store) (link : Link) → LinkKeeps s link → (asked : ℕ) (t : TableRef) (key v found : Value)
+    → Unmoved s (newindex_found s link asked t key v found).store
 newindex_found_keeps s link keeps asked t key v Nil =
     by_newindex_keeps s link keeps asked t key v (metamethod s (Table t) (codes "__newindex"))
 newindex_found_keeps s link keeps asked t key v w = write_raw_keeps s asked t (set (table_at s t) key v)
 
-newindex_asked_keeps : (s : Store) (link : Link) → LinkKeeps s link → (asked : ℕ) (base key v : Value) (o : Option TableRef) → Unmoved s (newindex_asked s link asked base key v o).store
+newindex_asked_keeps : (s : Store) (link : Link) → LinkKeeps s link → (asked : ℕ) (base key v : Value) (o : Option TableRef)
+    → Unmoved s (newindex_asked s link asked base key v o).store
 newindex_asked_keeps s link keeps asked base key v None = unmoved s
 newindex_asked_keeps s link keeps asked base key v (Some t) =
     newindex_found_keeps s link keeps (suc asked) t key v (get (table_at s t) key)

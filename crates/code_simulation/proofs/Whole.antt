@@ -76,11 +76,13 @@ module _ (p : Setting) (tree : Tree) (host : HostFields) (replies : List Reply) 
     alike = first_alike;
   }
     where
-      first_alike : (i : ℕ) (f : source.Body) → slice_get (bodies_s (first_dyn p tree host replies)) i ≡ Some f → (m : machine.Body) × (slice_get (bodies_m (first_dyn p tree host replies)) i ≡ Some m) × FuncAlike p (λ c. Nobody) f m
+      first_alike : (i : ℕ) (f : source.Body) → slice_get (bodies_s (first_dyn p tree host replies)) i ≡ Some f
+          → (m : machine.Body) × (slice_get (bodies_m (first_dyn p tree host replies)) i ≡ Some m) × FuncAlike p (λ c. Nobody) f m
       first_alike zero f e = (
         record { proto = p.chunk.main; cells = [] },
         refl,
-        subst (λ g. FuncAlike p (λ c. Nobody) g (record { proto = p.chunk.main; cells = [] })) (same_some e) (record { ups = []; proto = proto; coded = code; alike = tt }),
+        subst (λ g. FuncAlike p (λ c. Nobody) g (record { proto = p.chunk.main; cells = [] })) (same_some e)
+            (record { ups = []; proto = proto; coded = code; alike = tt }),
       )
       first_alike (suc i) f e = none_some e
 
@@ -93,18 +95,55 @@ module _ (p : Setting) (tree : Tree) (host : HostFields) (replies : List Reply) 
   first_s e =
       let f = out-FuncBody tree.main in
       let d = first_dyn p tree host replies in
-      ap (λ vs. source_calls.state_with (source.ExecuteAll f.body) (record { frames = []; env = []; closure = 0; varargs = vs } ∷ []) d.script) (sym (no_varargs_s f.vararg))
-      ∙ ap (λ xs. source_calls.state_with (source.ExecuteAll f.body) (record { frames = []; env = source_moves.bound xs 0 []; closure = 0; varargs = source_calls.varargs_of f.vararg (length xs) [] } ∷ []) (source_moves.with_cells ([] ++ source_moves.adjusted xs []) d.script)) (sym e)
+      ap (λ vs. source_calls.state_with (source.ExecuteAll f.body) (record { frames = []; env = []; closure = 0; varargs = vs } ∷ []) d.script)
+      (sym (no_varargs_s f.vararg))
+      ∙ ap (λ xs. source_calls.state_with (source.ExecuteAll f.body)
+      (record { frames = []; env = source_moves.bound xs 0 []; closure = 0; varargs = source_calls.varargs_of f.vararg (length xs) [] } ∷ [])
+      (source_moves.with_cells ([] ++ source_moves.adjusted xs []) d.script)) (sym e)
 
   first_m : (out-FuncBody tree.main).params ≡ [] → loaded p.chunk host replies ≡ entered_m p.chunk.main proto [] 0 [] [] (first_dyn p tree host replies)
   first_m e =
       let d = first_dyn p tree host replies in
-      ap (λ o. machine_calls.state_with machine.Run (record { closure = 0; proto = p.chunk.main; size = size_of o; upvalues = []; varargs = []; place = 0; registers = filled 0 []; top = 0; purpose = machine.Idle } ∷ []) d.code) code.found
-      ∙ ap (λ vs. machine_calls.state_with machine.Run (record { closure = 0; proto = p.chunk.main; size = proto.registers; upvalues = []; varargs = vs; place = 0; registers = filled 0 []; top = 0; purpose = machine.Idle } ∷ []) d.code) (sym (no_varargs_m proto.vararg))
-      ∙ ap (λ n. machine_calls.state_with machine.Run (record { closure = 0; proto = p.chunk.main; size = proto.registers; upvalues = []; varargs = machine_calls.varargs_of proto.vararg n []; place = 0; registers = filled 0 (take n []); top = length {A = Value} (take n []); purpose = machine.Idle } ∷ []) d.code) (sym (code.params ∙ ap length e))
+      ap (λ o. machine_calls.state_with machine.Run (record {
+        closure = 0;
+        proto = p.chunk.main;
+        size = size_of o;
+        upvalues = [];
+        varargs = [];
+        place = 0;
+        registers = filled 0 [];
+        top = 0;
+        purpose = machine.Idle;
+      } ∷ []) d.code) code.found
+      ∙ ap (λ vs. machine_calls.state_with machine.Run (record {
+        closure = 0;
+        proto = p.chunk.main;
+        size = proto.registers;
+        upvalues = [];
+        varargs =
+            vs;
+        place = 0;
+        registers = filled 0 [];
+        top = 0;
+        purpose = machine.Idle;
+      } ∷ []) d.code) (sym (no_varargs_m proto.vararg))
+      ∙ ap (λ n. machine_calls.state_with machine.Run (record {
+        closure = 0;
+        proto = p.chunk.main;
+        size = proto.registers;
+        upvalues = [];
+        varargs =
+            machine_calls.varargs_of proto.vararg n [];
+        place = 0;
+        registers = filled 0 (take n []);
+        top = length {A = Value}
+            (take n []);
+        purpose = machine.Idle;
+      } ∷ []) d.code) (sym (code.params ∙ ap length e))
 
   -- where functions go along, the script and its code do
-  pub main_same : (n : ℕ) → (out-FuncBody tree.main).params ≡ [] → p.Others n 0 (first_dyn p tree host replies) → FuncsGo p n → Alike p n (start tree host replies) (loaded p.chunk host replies)
+  pub main_same : (n : ℕ) → (out-FuncBody tree.main).params ≡ [] → p.Others n 0 (first_dyn p tree host replies) → FuncsGo p n
+      → Alike p n (start tree host replies) (loaded p.chunk host replies)
   main_same n e others funcs =
       subst (λ s. Alike p n s (loaded p.chunk host replies)) (sym (first_s e))
       (subst (λ m. Alike p n (entered_s tree.main [] 0 [] [] (first_dyn p tree host replies)) m) (sym (first_m e))
@@ -116,7 +155,8 @@ module _ (p : Setting) (laws : (i : ℕ) → Coroutines p i) (bodies : (i : ℕ)
   both_below : (n i : ℕ) → i < n → CallsGo p i × FuncsGo p i
   both_below zero i lt = absurd (omega (arith, lt))
   both_below (suc n) i lt =
-      let go : CallsGo p i = calls_go p i (laws i) (λ j lt2. (both_below n j (omega (arith, lt, lt2))).0) (λ j lt2. (both_below n j (omega (arith, lt, lt2))).1) in
+      let go : CallsGo p i = calls_go p i (laws i) (λ j lt2. (both_below n j (omega (arith, lt, lt2))).0)
+      (λ j lt2. (both_below n j (omega (arith, lt, lt2))).1) in
       (go, bodies i (λ j le. ⊎_elim (λ e. subst (CallsGo p) (sym e) go) (λ ne. (both_below n j (omega (arith, lt, le, ne))).0) (cases_eq j i)))
 
   -- with any number of turns left calls go along, and functions that are entered do
@@ -126,16 +166,20 @@ module _ (p : Setting) (laws : (i : ℕ) → Coroutines p i) (bodies : (i : ℕ)
   pub all_functions : (n : ℕ) → FuncsGo p n
   all_functions n = (both_below (suc n) n (omega arith)).1
 
-module _ (p : Setting) (laws : (i : ℕ) → Coroutines p i) (bodies : (i : ℕ) → ((j : ℕ) → j ≤ i → CallsGo p j) → FuncsGo p i) (tree : Tree) (host : HostFields) (replies : List Reply) (proto : ProtoOf) (code : Code p tree.main p.chunk.main [] proto) (no_parameter : (out-FuncBody tree.main).params ≡ []) (others : (n : ℕ) → p.Others n 0 (first_dyn p tree host replies)) where
+module _ (p : Setting) (laws : (i : ℕ) → Coroutines p i) (bodies : (i : ℕ) → ((j : ℕ) → j ≤ i → CallsGo p j) → FuncsGo p i) (tree : Tree)
+    (host : HostFields) (replies : List Reply) (proto : ProtoOf) (code : Code p tree.main p.chunk.main [] proto)
+    (no_parameter : (out-FuncBody tree.main).params ≡ []) (others : (n : ℕ) → p.Others n 0 (first_dyn p tree host replies)) where
   go_along : (n : ℕ) → Alike p n (start tree host replies) (loaded p.chunk host replies)
   go_along n = main_same p tree host replies proto code n no_parameter (others n) (all_functions p laws bodies n)
 
   -- each report of the script is one of its code
-  pub to_code : (n : ℕ) (r : Report EventKind source_moves.Look) → SourceRun p.texts tree host replies n r → (q : Report EventKind machine_moves.Look) × MachineRun p.chunk host replies n q × Agree (λ look. 1) (λ look. 1) r q
+  pub to_code : (n : ℕ) (r : Report EventKind source_moves.Look) → SourceRun p.texts tree host replies n r
+      → (q : Report EventKind machine_moves.Look) × MachineRun p.chunk host replies n q × Agree (λ look. 1) (λ look. 1) r q
   to_code n r run = together.to_other _ _ _ _ _ _ _ _ _ n _ _ (go_along n) r run
 
   -- each report of the code is one of the script
-  pub to_source : (n : ℕ) (q : Report EventKind machine_moves.Look) → MachineRun p.chunk host replies n q → (r : Report EventKind source_moves.Look) × SourceRun p.texts tree host replies n r × Agree (λ look. 1) (λ look. 1) r q
+  pub to_source : (n : ℕ) (q : Report EventKind machine_moves.Look) → MachineRun p.chunk host replies n q
+      → (r : Report EventKind source_moves.Look) × SourceRun p.texts tree host replies n r × Agree (λ look. 1) (λ look. 1) r q
   to_source n q run = together.to_one _ _ _ _ _ _ _ _ _ n _ _ (go_along n) q run
 
   -- and there is one

@@ -19,29 +19,34 @@ use Rattle.code_simulation.proofs.Names.{same_some, none_some, local_cases, put_
 pub keeps_all : {co depth : ℕ} {tag : Tags} → Keeps co depth tag tag
 keeps_all = record { of = λ c co' depth' v e ne. e; taken = λ c k e. e }
 
-pub ups_keep : (tag tag' : Tags) (env : Environment) → ((c k : ℕ) → tag c ≡ Taken k → tag' c ≡ Taken k) → (ys : List StrId) (ks : List ℕ) → UpsAlike tag env ys ks → UpsAlike tag' env ys ks
+pub ups_keep : (tag tag' : Tags) (env : Environment) → ((c k : ℕ) → tag c ≡ Taken k → tag' c ≡ Taken k) → (ys : List StrId) (ks : List ℕ)
+    → UpsAlike tag env ys ks → UpsAlike tag' env ys ks
 ups_keep tag tag' env g [] [] u = tt
 ups_keep tag tag' env g (y ∷ ys) (k ∷ ks) u = ((u.0.0, u.0.1, g u.0.0 k u.0.2), ups_keep tag tag' env g ys ks u.1)
 ups_keep tag tag' env g [] (k ∷ ks) u = absurd u
 ups_keep tag tag' env g (y ∷ ys) [] u = absurd u
 
-pub func_keep : (p : Setting) (tag tag' : Tags) (f : source.Body) (m : machine.Body) → ((c k : ℕ) → tag c ≡ Taken k → tag' c ≡ Taken k) → FuncAlike p tag f m → FuncAlike p tag' f m
+pub func_keep : (p : Setting) (tag tag' : Tags) (f : source.Body) (m : machine.Body) → ((c k : ℕ) → tag c ≡ Taken k → tag' c ≡ Taken k)
+    → FuncAlike p tag f m → FuncAlike p tag' f m
 func_keep p tag tag' f m g a =
     record { ups = a.ups; proto = a.proto; coded = a.coded; alike = ups_keep tag tag' f.env g a.ups m.cells a.alike }
 
 -- another function's variable keeps its register
-match_keep : (co depth co0 depth0 : ℕ) (cap : Bool) (tag tag' : Tags) (c : ℕ) (Y : Register) → Keeps co0 depth0 tag tag' → (co ≡ co0 → depth ≡ depth0 → ⊥) → Match co depth cap (tag c) Y → Match co depth cap (tag' c) Y
+match_keep : (co depth co0 depth0 : ℕ) (cap : Bool) (tag tag' : Tags) (c : ℕ) (Y : Register) → Keeps co0 depth0 tag tag'
+    → (co ≡ co0 → depth ≡ depth0 → ⊥) → Match co depth cap (tag c) Y → Match co depth cap (tag' c) Y
 match_keep co depth co0 depth0 cap tag tag' c Y k ne (inl a) = inl (a.0, k.of c co depth a.0 a.1 ne, a.2)
 match_keep co depth co0 depth0 cap tag tag' c Y k ne (inr b) = inr (b.0, k.taken c b.0 b.1, b.2, b.3)
 
-pub fits_keep : {co depth : ℕ} {tag : Tags} {regs : Registers} {l : List Slot} → (co0 depth0 : ℕ) (tag' : Tags) → Keeps co0 depth0 tag tag' → (co ≡ co0 → depth ≡ depth0 → ⊥) → Fits co depth tag regs l → Fits co depth tag' regs l
+pub fits_keep : {co depth : ℕ} {tag : Tags} {regs : Registers} {l : List Slot} → (co0 depth0 : ℕ) (tag' : Tags) → Keeps co0 depth0 tag tag'
+    → (co ≡ co0 → depth ≡ depth0 → ⊥) → Fits co depth tag regs l → Fits co depth tag' regs l
 fits_keep co0 depth0 tag' k ne none = none
 fits_keep co0 depth0 tag' k ne (temp e f) = temp e (fits_keep co0 depth0 tag' k ne f)
 fits_keep {co} {depth} {tag} {regs} co0 depth0 tag' k ne (var {c = c} {cap = cap} {l = l} m a f) =
     var (match_keep co depth co0 depth0 cap tag tag' c (regs (length l)) k ne m) a (fits_keep co0 depth0 tag' k ne f)
 
 -- those that wait below the one that runs
-pub all_rest_keep : (co depth0 : ℕ) (tag tag' : Tags) → Keeps co depth0 tag tag' → (stack : List Desc) → length stack ≤ depth0 → AllRest co tag stack → AllRest co tag' stack
+pub all_rest_keep : (co depth0 : ℕ) (tag tag' : Tags) → Keeps co depth0 tag tag' → (stack : List Desc) → length stack ≤ depth0 → AllRest co tag stack
+    → AllRest co tag' stack
 all_rest_keep co depth0 tag tag' k [] le r = tt
 all_rest_keep co depth0 tag tag' k (s ∷ stack) le r = (
   record {
@@ -53,18 +58,29 @@ all_rest_keep co depth0 tag tag' k (s ∷ stack) le r = (
 )
 
 -- the running function has changed its own cells, and cells that closures have taken; what waits is the same
-pub ok_keep : {p : Setting} {turns co : ℕ} {ws : List Wait} {roots : List Desc} {d : Dyn} → (d' : Dyn) → Base p d' → Keeps co (length roots) d.tag d'.tag → (store_s d').running ≡ (store_s d).running → (store_s d').coroutines ≡ (store_s d).coroutines → d'.script.waits ≡ d.script.waits → d'.script.elsewhere ≡ d.script.elsewhere → d'.code.elsewhere ≡ d.code.elsewhere → Ok p turns co ws roots d → Ok p turns co ws roots d'
+pub ok_keep : {p : Setting} {turns co : ℕ} {ws : List Wait} {roots : List Desc} {d : Dyn} → (d' : Dyn) → Base p d'
+    → Keeps co (length roots) d.tag d'.tag → (store_s d').running ≡ (store_s d).running → (store_s d').coroutines ≡ (store_s d).coroutines
+    → d'.script.waits ≡ d.script.waits → d'.script.elsewhere ≡ d.script.elsewhere → d'.code.elsewhere ≡ d.code.elsewhere → Ok p turns co ws roots d
+    → Ok p turns co ws roots d'
 ok_keep {p} {turns} {co} {ws} {roots} {d} d' base k running coroutines waits script code o = record {
   base = base;
   running = ap place_of_running running ∙ o.running;
   room = subst (λ w. co < length w) (sym waits) o.room;
   waits = ap (λ w. waiting w co) waits ∙ o.waits;
   rest = all_rest_keep co (length roots) d.tag d'.tag k roots (omega arith) o.rest;
-  others = p.others_keep turns co (length roots) d d' k (record { running = running; coroutines = coroutines; waits = λ j ne. ap (λ w. waiting w j) waits; script = script; code = code }) o.others;
+  others = p.others_keep turns co (length roots) d d' k (record {
+    running = running;
+    coroutines = coroutines;
+    waits = λ j ne. ap
+        (λ w. waiting w j) waits;
+    script = script;
+    code = code;
+  }) o.others;
 }
 
 -- ---- the register of a variable
-pub find : {co depth : ℕ} {tag : Tags} {regs : Registers} {l : List Slot} → (x : StrId) (o : Local) → local_at l x ≡ Some o → Fits co depth tag regs l → Match co depth o.captured (tag o.cell) (regs o.register)
+pub find : {co depth : ℕ} {tag : Tags} {regs : Registers} {l : List Slot} → (x : StrId) (o : Local) → local_at l x ≡ Some o → Fits co depth tag regs l
+    → Match co depth o.captured (tag o.cell) (regs o.register)
 find x o e none = none_some e
 find x o e (temp h f) = find x o e f
 find {co} {depth} {tag} {regs} x o e (var {x = y} {c = c} {cap = cap} {l = l} m a f) =
@@ -74,7 +90,8 @@ find {co} {depth} {tag} {regs} x o e (var {x = y} {c = c} {cap = cap} {l = l} m 
     (local_cases y x _ (local_at l x) o e)
 
 -- an upvalue's cell
-pub ups_at : (tag : Tags) (env : Environment) (ys : List StrId) (ks : List ℕ) (u : ℕ) (x : StrId) → UpsAlike tag env ys ks → slice_get ys u ≡ Some x → Up tag env x (slice_index_or ks u 0)
+pub ups_at : (tag : Tags) (env : Environment) (ys : List StrId) (ks : List ℕ) (u : ℕ) (x : StrId) → UpsAlike tag env ys ks → slice_get ys u ≡ Some x
+    → Up tag env x (slice_index_or ks u 0)
 ups_at tag env [] [] u x a e = none_some e
 ups_at tag env [] (k ∷ ks) u x a e = absurd a
 ups_at tag env (y ∷ ys) [] u x a e = absurd a
@@ -82,7 +99,8 @@ ups_at tag env (y ∷ ys) (k ∷ ks) zero x a e = subst (λ z. Up tag env z k) (
 ups_at tag env (y ∷ ys) (k ∷ ks) (suc u) x a e = ups_at tag env ys ks u x a.1 e
 
 -- ---- slots above and below
-pub fits_put : {co depth : ℕ} {tag : Tags} {regs : Registers} {l : List Slot} → (r : ℕ) (v : Register) → length l ≤ r → Fits co depth tag regs l → Fits co depth tag (put regs r v) l
+pub fits_put : {co depth : ℕ} {tag : Tags} {regs : Registers} {l : List Slot} → (r : ℕ) (v : Register) → length l ≤ r → Fits co depth tag regs l
+    → Fits co depth tag (put regs r v) l
 fits_put r v le none = none
 fits_put {regs = regs} r v le (temp {l = l} e f) =
     temp (put_other regs r v (length l) (omega (arith, le)) ∙ e) (fits_put r v (omega (arith, le)) f)
@@ -100,12 +118,14 @@ pub fits_drop : {co depth : ℕ} {tag : Tags} {regs : Registers} {l l0 : List Sl
 fits_drop same f = f
 fits_drop (up a) f = fits_drop a (drop_slot f)
 
-pub fits_temps : {co depth : ℕ} {tag : Tags} {regs : Registers} → (vs : List Value) (l : List Slot) → Fits co depth tag regs (temps vs l) → Fits co depth tag regs l
+pub fits_temps : {co depth : ℕ} {tag : Tags} {regs : Registers} → (vs : List Value) (l : List Slot) → Fits co depth tag regs (temps vs l)
+    → Fits co depth tag regs l
 fits_temps [] l f = f
 fits_temps (v ∷ vs) l f = drop_slot (fits_temps vs (Temp v ∷ l) f)
 
 -- a change below values
-pub fits_over : {co depth : ℕ} {tag tag' : Tags} {regs : Registers} → (vs : List Value) (l l' : List Slot) → length l ≡ length l' → (Fits co depth tag regs l → Fits co depth tag' regs l') → Fits co depth tag regs (temps vs l) → Fits co depth tag' regs (temps vs l')
+pub fits_over : {co depth : ℕ} {tag tag' : Tags} {regs : Registers} → (vs : List Value) (l l' : List Slot) → length l ≡ length l'
+    → (Fits co depth tag regs l → Fits co depth tag' regs l') → Fits co depth tag regs (temps vs l) → Fits co depth tag' regs (temps vs l')
 fits_over [] l l' e g f = g f
 fits_over {regs = regs} (v ∷ vs) l l' e g f =
     fits_over vs (Temp v ∷ l) (Temp v ∷ l') (ap suc e) (λ h. temp (ap regs (sym e) ∙ temp_reg h) (g (drop_slot h))) f
@@ -117,7 +137,8 @@ closed_below cells regs n q lt = ap (λ b. cond b (regs q) (Val (held cells (reg
 closed_above : (cells : List Value) (regs : Registers) (n q : ℕ) → n ≤ q → closed cells regs n q ≡ Val (held cells (regs q))
 closed_above cells regs n q le = ap (λ b. cond b (regs q) (Val (held cells (regs q)))) (le-ltb q n le)
 
-fits_closed : {co depth : ℕ} {tag : Tags} {regs : Registers} {l : List Slot} → (cells : List Value) (n : ℕ) → length l ≤ n → Fits co depth tag regs l → Fits co depth tag (closed cells regs n) l
+fits_closed : {co depth : ℕ} {tag : Tags} {regs : Registers} {l : List Slot} → (cells : List Value) (n : ℕ) → length l ≤ n → Fits co depth tag regs l
+    → Fits co depth tag (closed cells regs n) l
 fits_closed cells n le none = none
 fits_closed {regs = regs} cells n le (temp {l = l} e f) =
     temp (closed_below cells regs n (length l) (omega (arith, le)) ∙ e) (fits_closed cells n (omega (arith, le)) f)
@@ -145,7 +166,8 @@ trimmed_clear size top regs r c = pick (nat_lt r size) (nat_lt r top)
     pick false false = (Nil, refl)
 
 -- a change of registers that leaves those in use
-pub fits_same : {co depth : ℕ} {tag : Tags} {regs : Registers} {l : List Slot} → (regs' : Registers) → ((r : ℕ) → r < length l → regs' r ≡ regs r) → Fits co depth tag regs l → Fits co depth tag regs' l
+pub fits_same : {co depth : ℕ} {tag : Tags} {regs : Registers} {l : List Slot} → (regs' : Registers) → ((r : ℕ) → r < length l → regs' r ≡ regs r)
+    → Fits co depth tag regs l → Fits co depth tag regs' l
 fits_same regs' e none = none
 fits_same regs' e (temp {l = l} h f) = temp (e (length l) (omega arith) ∙ h) (fits_same regs' (λ r lt. e r (omega (arith, lt))) f)
 fits_same {co} {depth} {tag} {regs} regs' e (var {c = c} {cap = cap} {l = l} m a f) =
@@ -159,7 +181,8 @@ put_clear regs n v h r le =
     (cases_eq r n)
 
 -- registers of which none may be open
-pub clear_less : {co depth : ℕ} {tag : Tags} {regs : Registers} {l l0 : List Slot} → Plainly l l0 → Fits co depth tag regs l → Clear regs (length l) → Clear regs (length l0)
+pub clear_less : {co depth : ℕ} {tag : Tags} {regs : Registers} {l l0 : List Slot} → Plainly l l0 → Fits co depth tag regs l → Clear regs (length l)
+    → Clear regs (length l0)
 clear_less plain_same f c = c
 clear_less {regs = regs} {l0 = l0} (plain_temp {v = v} {l = l} a) f c =
     clear_less a (drop_slot f) (λ r le. ⊎_elim
@@ -216,13 +239,16 @@ module _ {p : Setting} {turns co : ℕ} {ws : List Wait} {roots : List Desc} {a 
   pop_all (v ∷ vs) l w = pop (pop_all vs (Temp v ∷ l) w)
 
   -- other registers, where those in use are the same and none above is open
-  pub other_registers : {l : List Slot} → (regs' : Registers) → ((r : ℕ) → r < length l → regs' r ≡ regs r) → Clear regs' (length l) → Holds p turns co ws roots a l d regs → Holds p turns co ws roots a l d regs'
+  pub other_registers : {l : List Slot} → (regs' : Registers) → ((r : ℕ) → r < length l → regs' r ≡ regs r) → Clear regs' (length l)
+      → Holds p turns co ws roots a l d regs → Holds p turns co ws roots a l d regs'
   other_registers regs' e clear w = record { ok = w.ok; fits = fits_same regs' e w.fits; clear = clear; alike = w.alike }
 
   -- registers beyond the frame's own are gone from the end of the list on
-  pub trim : {l : List Slot} → (size top : ℕ) → ((r : ℕ) → r < length l → (r < size) ⊎ (r < top)) → Holds p turns co ws roots a l d regs → Holds p turns co ws roots a l d (trimmed size top regs)
+  pub trim : {l : List Slot} → (size top : ℕ) → ((r : ℕ) → r < length l → (r < size) ⊎ (r < top)) → Holds p turns co ws roots a l d regs
+      → Holds p turns co ws roots a l d (trimmed size top regs)
   trim size top kept w =
-      other_registers (trimmed size top regs) (λ r lt. ⊎_elim (trimmed_own size top regs r) (trimmed_below size top regs r) (kept r lt)) (λ r le. trimmed_clear size top regs r (w.clear r le)) w
+      other_registers (trimmed size top regs) (λ r lt. ⊎_elim (trimmed_own size top regs r) (trimmed_below size top regs r) (kept r lt))
+      (λ r le. trimmed_clear size top regs r (w.clear r le)) w
 
   -- ---- blocks
   pub close : {l : List Slot} → Loosely p turns co ws roots a l d regs → Holds p turns co ws roots a l d (closed (cells_m d) regs (length l))
@@ -241,7 +267,8 @@ module _ {p : Setting} {turns co : ℕ} {ws : List Wait} {roots : List Desc} {a 
   drop_plainly b c w = record { ok = w.ok; fits = fits_drop c w.fits; clear = clear_less b w.fits w.clear; alike = w.alike }
 
   -- ---- reading
-  pub read : {l : List Slot} → (x : StrId) (o : Local) → local_at l x ≡ Some o → Holds p turns co ws roots a l d regs → at (cells_s d) o.cell ≡ held (cells_m d) (regs o.register)
+  pub read : {l : List Slot} → (x : StrId) (o : Local) → local_at l x ≡ Some o → Holds p turns co ws roots a l d regs
+      → at (cells_s d) o.cell ≡ held (cells_m d) (regs o.register)
   read {l} x o e w =
       ⊎_elim
       (λ m. (w.ok.base.cells _ _ _ _ m.1).1 ∙ ap (held (cells_m d)) (sym m.2))
@@ -249,14 +276,16 @@ module _ {p : Setting} {turns co : ℕ} {ws : List Wait} {roots : List Desc} {a 
       (find x o e w.fits)
 
   -- the register of a variable that no closure may capture holds its value
-  pub read_plain : {l : List Slot} → (x : StrId) (o : Local) → local_at l x ≡ Some o → o.captured ≡ false → Holds p turns co ws roots a l d regs → regs o.register ≡ Val (at (cells_s d) o.cell)
+  pub read_plain : {l : List Slot} → (x : StrId) (o : Local) → local_at l x ≡ Some o → o.captured ≡ false → Holds p turns co ws roots a l d regs
+      → regs o.register ≡ Val (at (cells_s d) o.cell)
   read_plain {l} x o e plain w =
       ⊎_elim
       (λ m. m.2 ∙ ap Val (sym (w.ok.base.cells _ _ _ _ m.1).1))
       (λ m. absurd (false≢true (sym plain ∙ m.3)))
       (find x o e w.fits)
 
-  pub read_up : (x : StrId) (u : ℕ) {l : List Slot} → slice_get a.ups u ≡ Some x → Holds p turns co ws roots a l d regs → (c : ℕ) × (cell_of a.outer x ≡ Some c) × (at (cells_s d) c ≡ at (cells_m d) (slice_index_or a.cells u 0))
+  pub read_up : (x : StrId) (u : ℕ) {l : List Slot} → slice_get a.ups u ≡ Some x → Holds p turns co ws roots a l d regs
+      → (c : ℕ) × (cell_of a.outer x ≡ Some c) × (at (cells_s d) c ≡ at (cells_m d) (slice_index_or a.cells u 0))
   read_up x u e w =
       let o = ups_at d.tag a.outer a.ups a.cells u x w.alike e in (o.0, o.1, (w.ok.base.taken _ _ o.2).2)
 
@@ -285,10 +314,12 @@ pub ok_later : (p : Setting) (i turns co : ℕ) (ws : List Wait) (roots : List D
 ok_later p i turns co ws roots d le o =
     record { base = o.base; running = o.running; room = o.room; waits = o.waits; rest = o.rest; others = p.others_later i turns co d le o.others }
 
-pub holds_later : (p : Setting) (i turns co : ℕ) (ws : List Wait) (roots : List Desc) (a : Act) (l : List Slot) (d : Dyn) (regs : Registers) → i ≤ turns → Holds p turns co ws roots a l d regs → Holds p i co ws roots a l d regs
+pub holds_later : (p : Setting) (i turns co : ℕ) (ws : List Wait) (roots : List Desc) (a : Act) (l : List Slot) (d : Dyn) (regs : Registers)
+    → i ≤ turns → Holds p turns co ws roots a l d regs → Holds p i co ws roots a l d regs
 holds_later p i turns co ws roots a l d regs le w =
     record { ok = ok_later p i turns co ws roots d le w.ok; fits = w.fits; clear = w.clear; alike = w.alike }
 
-pub loosely_later : (p : Setting) (i turns co : ℕ) (ws : List Wait) (roots : List Desc) (a : Act) (l : List Slot) (d : Dyn) (regs : Registers) → i ≤ turns → Loosely p turns co ws roots a l d regs → Loosely p i co ws roots a l d regs
+pub loosely_later : (p : Setting) (i turns co : ℕ) (ws : List Wait) (roots : List Desc) (a : Act) (l : List Slot) (d : Dyn) (regs : Registers)
+    → i ≤ turns → Loosely p turns co ws roots a l d regs → Loosely p i co ws roots a l d regs
 loosely_later p i turns co ws roots a l d regs le w =
     record { ok = ok_later p i turns co ws roots d le w.ok; fits = w.fits; alike = w.alike }

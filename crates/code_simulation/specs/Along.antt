@@ -24,20 +24,25 @@ use Rattle.code_simulation.specs.Relation.{Dyn, Setting, Act, Desc, Ok, Holds, L
 
 -- with so many turns left both come to one report
 abbrev pub Alike : Setting → ℕ → source.State → machine.State → Type 0
-Alike p = together.Alike EventKind source_moves.Look machine_moves.Look source.State machine.State (λ look. 1) (λ look. 1) (source_steps.step p.texts) (machine_steps.step p.chunk)
+Alike p = together.Alike EventKind source_moves.Look machine_moves.Look source.State machine.State (λ look. 1) (λ look. 1) (source_steps.step p.texts)
+    (machine_steps.step p.chunk)
 
 -- ---- functions that wait
 
 -- one goes on where it is given values
 abbrev pub GivesOn : Setting → (left co : ℕ) → List Wait → source.Activation → List source.Activation → machine.Frame → List machine.Frame → List Desc → Type 0
 GivesOn p left co ws a fs f ms ds =
-    (i : ℕ) → i ≤ left → (vs : List Value) (d : Dyn) → Ok p i co ws ds d → Alike p i (source_calls.state_with (source.GiveAll vs) (a ∷ fs) d.script) (machine_calls.state_with (machine.GiveAll vs) (f ∷ ms) d.code)
+    (i : ℕ) → i ≤ left → (vs : List Value) (d : Dyn) → Ok p i co ws ds d
+    → Alike p i (source_calls.state_with (source.GiveAll vs) (a ∷ fs) d.script) (machine_calls.state_with (machine.GiveAll vs) (f ∷ ms) d.code)
 
 -- what waits in a coroutine, with its functions on both sides, each of which goes on
 pub data Stands (p : Setting) (left co : ℕ) : List Wait → List source.Activation → List machine.Frame → List Desc → Type 0 where
   bottom : Stands p left co [] [] [] []
-  function : {c : ℕ} {ws : List Wait} {a : source.Activation} {fs : List source.Activation} {f : machine.Frame} {ms : List machine.Frame} {s : Desc} {ds : List Desc} → GivesOn p left co (Runs c ∷ ws) a fs f ms (s ∷ ds) → Stands p left co ws fs ms ds → Stands p left co (Runs c ∷ ws) (a ∷ fs) (f ∷ ms) (s ∷ ds)
-  other : {w : Wait} {ws : List Wait} {fs : List source.Activation} {ms : List machine.Frame} {ds : List Desc} → source_calls.is_function (Some w) ≡ false → Stands p left co ws fs ms ds → Stands p left co (w ∷ ws) fs ms ds
+  function : {c : ℕ} {ws : List Wait} {a : source.Activation} {fs : List source.Activation} {f : machine.Frame} {ms : List machine.Frame} {s : Desc}
+      {ds : List Desc} → GivesOn p left co (Runs c ∷ ws) a fs f ms (s ∷ ds) → Stands p left co ws fs ms ds
+      → Stands p left co (Runs c ∷ ws) (a ∷ fs) (f ∷ ms) (s ∷ ds)
+  other : {w : Wait} {ws : List Wait} {fs : List source.Activation} {ms : List machine.Frame} {ds : List Desc}
+      → source_calls.is_function (Some w) ≡ false → Stands p left co ws fs ms ds → Stands p left co (w ∷ ws) fs ms ds
 
 -- what is done where no function runs
 pub data Outside : Type 0 where
@@ -61,7 +66,9 @@ focus_m (Raises v) = machine.Raise v
 -- with so many turns left calls, values that are handed on and errors go along together, whatever waits for them
 abbrev pub CallsGo : Setting → ℕ → Type 0
 CallsGo p left =
-    (x : Outside) (co : ℕ) (ws : List Wait) (fs : List source.Activation) (ms : List machine.Frame) (ds : List Desc) (d : Dyn) → Ok p left co ws ds d → Stands p left co ws fs ms ds → Alike p left (source_calls.state_with (focus_s x) fs d.script) (machine_calls.state_with (focus_m x) ms d.code)
+    (x : Outside) (co : ℕ) (ws : List Wait) (fs : List source.Activation) (ms : List machine.Frame) (ds : List Desc) (d : Dyn) → Ok p left co ws ds d
+    → Stands p left co ws fs ms ds → Alike p left (source_calls.state_with (focus_s x) fs d.script)
+    (machine_calls.state_with (focus_m x) ms d.code)
 
 -- ---- the function that runs
 
@@ -142,17 +149,21 @@ module _ (p : Setting) (most : ℕ) where
   -- its value is given, and stands in the first free register
   abbrev pub WithValue : Here → ℕ → List Slot → Registers → List source.Frame → (to : ℕ) → Type 0
   WithValue h left l regs k to =
-      (i : ℕ) → i ≤ left → (v : Value) (d : Dyn) (file : File) → Has h i (Temp v ∷ l) d file → Steady l regs file.registers → Same h i (source.Give v) k l d to file
+      (i : ℕ) → i ≤ left → (v : Value) (d : Dyn) (file : File) → Has h i (Temp v ∷ l) d file → Steady l regs file.registers
+      → Same h i (source.Give v) k l d to file
 
   -- its values are given, of which some are in registers
   abbrev pub WithAll : Here → ℕ → List Slot → Registers → List source.Frame → (to count : ℕ) → (List Value → List Value) → Type 0
   WithAll h left l regs k to count take =
-      (i : ℕ) → i ≤ left → (vs : List Value) (d : Dyn) (file : File) → Has h i (temps (take vs) l) d file → Counts count (length (take vs)) (length l) file.top → Steady l regs file.registers → Same h i (source.GiveAll vs) k l d to file
+      (i : ℕ) → i ≤ left → (vs : List Value) (d : Dyn) (file : File) → Has h i (temps (take vs) l) d file
+      → Counts count (length (take vs)) (length l) file.top → Steady l regs file.registers → Same h i (source.GiveAll vs) k l d to file
 
   -- the values of a call are given to what waits for them, on both sides
   abbrev pub Receives : Here → ℕ → List Slot → Registers → source.Node → source.Purpose → List source.Frame → machine.Purpose → (place : ℕ) → Type 0
   Receives h left l regs node purpose k q place =
-      (i : ℕ) → i ≤ left → (vs : List Value) (d : Dyn) (file : File) → Has h i l d file → Steady l regs file.registers → Alike p i (source_at h (source.GiveAll vs) (source.Awaits node purpose ∷ k) (env_of h l) d) (machine_moves.state (machine.GiveAll vs) (machine_moves.waits_for q (frame h place file)) h.below_m d.code)
+      (i : ℕ) → i ≤ left → (vs : List Value) (d : Dyn) (file : File) → Has h i l d file → Steady l regs file.registers
+      → Alike p i (source_at h (source.GiveAll vs) (source.Awaits node purpose ∷ k) (env_of h l) d)
+      (machine_moves.state (machine.GiveAll vs) (machine_moves.waits_for q (frame h place file)) h.below_m d.code)
 
   -- a statement is done
   abbrev pub Afterwards : Here → ℕ → List Slot → List source.Frame → (to : ℕ) → Type 0

@@ -85,7 +85,8 @@ Match co depth captured X Y =
 pub data Fits (co depth : ℕ) (tag : Tags) (regs : Registers) : List Slot → Type 0 where
   none : Fits co depth tag regs []
   temp : {v : Value} {l : List Slot} → regs (length l) ≡ Val v → Fits co depth tag regs l → Fits co depth tag regs (Temp v ∷ l)
-  var : {x : StrId} {c : ℕ} {cap : Bool} {l : List Slot} → Match co depth cap (tag c) (regs (length l)) → IsApart l c → Fits co depth tag regs l → Fits co depth tag regs (Var x c cap ∷ l)
+  var : {x : StrId} {c : ℕ} {cap : Bool} {l : List Slot} → Match co depth cap (tag c) (regs (length l)) → IsApart l c → Fits co depth tag regs l
+      → Fits co depth tag regs (Var x c cap ∷ l)
 
 -- no register is open from one up
 abbrev pub Clear : Registers → ℕ → Type 0
