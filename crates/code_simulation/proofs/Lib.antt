@@ -23,4 +23,5 @@ pub mod Updates
 pub mod Numeric
 pub mod Repeats
 pub mod Concats
+pub mod Indexing
 pub mod Whole
