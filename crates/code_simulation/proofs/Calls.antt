@@ -27,7 +27,7 @@ use Rattle.code_simulation.proofs.Moving.{source_goes, target_goes}
 use Rattle.code_simulation.proofs.Waiting.{call_here}
 use Rattle.code_simulation.proofs.Registers.{listed, row_here, wanted, deliver_is, delivered, delivered_file, delivered_steady, results_is}
 
-adjusted_one : (vs : List Value) → machine.adjusted 1 vs ≡ source_moves.first vs ∷ []
+pub adjusted_one : (vs : List Value) → machine.adjusted 1 vs ≡ source_moves.first vs ∷ []
 adjusted_one [] = refl
 adjusted_one (v ∷ vs) = refl
 

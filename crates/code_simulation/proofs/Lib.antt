@@ -24,4 +24,5 @@ pub mod Numeric
 pub mod Repeats
 pub mod Concats
 pub mod Indexing
+pub mod Methods
 pub mod Whole
