@@ -25,4 +25,5 @@ pub mod Repeats
 pub mod Concats
 pub mod Indexing
 pub mod Methods
+pub mod Bounds
 pub mod Whole
