@@ -1,18 +1,16 @@
 -- Assignments to names: to a variable in its register or in a cell, to an upvalue, to a global; and local functions.
-use Rattle.std.proofs.Common.{Bool, true, false, ◌≡◌, ℕ, zero, suc, ◌+◌, ◌<◌, ◌≤◌, ℤ, pos, List, [], ◌∷◌, ◌++◌, length, Option, Some, None, refl, sym, ap, ◌∙◌, subst, arith, ◌⊎◌, ⊎_elim, inl, inr}
+use Rattle.std.proofs.Common.{◌≡◌, ℕ, suc, ◌+◌, ◌≤◌, List, [], ◌∷◌, ◌++◌, length, Some, None, refl, sym, ap, ◌∙◌, subst, arith}
 use Rattle.std.specs.Prelude.{slice_get, slice_set, slice_index_or}
 use Rattle.byte_text.specs.declared.fixed.StrId.{StrId}
-use Rattle.syntax_tree.specs.declared.tree.BinOp.{BinOp}
 use Rattle.syntax_tree.specs.declared.tree.Expr.{Expr}
 use Rattle.syntax_tree.specs.declared.tree.ExprKind.{out-ExprKind}
 use Rattle.syntax_tree.specs.declared.tree.ExprKind.TheOpen as level
 use Rattle.syntax_tree.specs.declared.tree.Stat.{Stat}
 use Rattle.syntax_tree.specs.declared.tree.StatKind.{out-StatKind}
-use Rattle.value_model.specs.Values.{Value, Nil, Text, Table}
+use Rattle.value_model.specs.Values.{Value, Text, Table}
 use Rattle.value_model.specs.Store.{environment_of}
-use Rattle.value_model.specs.Choices.{Operation, Newindex}
+use Rattle.value_model.specs.Choices.{Newindex}
 use Rattle.value_model.specs.Metamethods.{choose}
-use Rattle.bounded_runs.specs.Runs.{Goes}
 use Rattle.source_meaning.specs.Levels.{ExprLevel}
 use Rattle.source_meaning.specs.States.{Node, Target, ToCell, ToGlobal, of_expr, of_stat, cell_of}
 use Rattle.source_meaning.specs.States as source
@@ -26,22 +24,20 @@ use Rattle.machine_meaning.specs.States.{Val, held}
 use Rattle.machine_meaning.specs.States as machine
 use Rattle.machine_meaning.specs.Moves as machine_moves
 use Rattle.machine_meaning.specs.Effects as effects
-use Rattle.machine_meaning.specs.Steps as machine_steps
 use Rattle.code_simulation.specs.Slots.{Slot, Temp, Local, local_at, temps}
-use Rattle.code_simulation.specs.Relation.{Dyn, cells_s, cells_m, store_s, store_m, Setting}
+use Rattle.code_simulation.specs.Relation.{Dyn, cells_m, store_s, store_m, Setting}
 use Rattle.code_simulation.specs.Along.{Alike, CallsGo, File, Here, inside, frame, env_of, Reads, source_at, machine_at, Has, Same}
-use Rattle.code_simulation.specs.Parts.{Sight, over, in_register, OperandRuns, Stays, Operates, ListRuns}
-use Rattle.code_simulation.proofs.Names.{look_in, look_out, binds_temps, local_temps, length_temps, steady_all, steady_on}
-use Rattle.code_simulation.proofs.World.{ups_at, fits_temps, temp_reg, pop, pop_all, top_is}
+use Rattle.code_simulation.specs.Parts.{ListRuns}
+use Rattle.code_simulation.proofs.Names.{look_in, look_out, binds_temps, local_temps, length_temps, steady_all}
+use Rattle.code_simulation.proofs.World.{ups_at, fits_temps, temp_reg, pop_all}
 use Rattle.code_simulation.proofs.Changes.{both_set, assign_shared}
 use Rattle.code_simulation.proofs.Moving.{source_goes, target_goes}
 use Rattle.code_simulation.proofs.Registers.{row_here}
-use Rattle.code_simulation.proofs.Operations.{operation_here, value_here}
+use Rattle.code_simulation.proofs.Operations.{operation_here}
 use Rattle.code_simulation.proofs.Lists.{length_adjusted}
 use Rattle.code_simulation.proofs.Functions.{written}
 use Rattle.code_simulation.proofs.Blocks.{Jumps, StatRuns, stat_row}
 use Rattle.code_simulation.proofs.Statements.{adjusted_is}
-use Rattle.code_simulation.proofs.Operators.{IsOperation, operate_row, under}
 
 -- where a name is stored
 abbrev pub aimed : source.Environment → Expr → StrId → Node × Target

@@ -1,5 +1,5 @@
 -- The bounds of a numeric `for`: the start is evaluated where the index stands, the limit and the step above it, and these are moved down.
-use Rattle.std.proofs.Common.{Bool, true, false, ◌≡◌, ℕ, zero, suc, ◌+◌, ◌<◌, ◌≤◌, ℤ, pos, List, [], ◌∷◌, ◌++◌, length, Option, Some, None, refl, sym, ap, ◌∙◌, arith}
+use Rattle.std.proofs.Common.{◌≡◌, ℕ, suc, ◌≤◌, pos, List, [], ◌∷◌, length, Option, Some, None, refl, ◌∙◌, arith}
 use Rattle.byte_text.specs.declared.fixed.StrId.{StrId}
 use Rattle.syntax_tree.specs.declared.tree.Expr.{Expr}
 use Rattle.syntax_tree.specs.declared.tree.Stat.{Stat}
@@ -14,10 +14,9 @@ use Rattle.source_meaning.specs.Steps as source_steps
 use Rattle.op_words.specs.declared.insn.Insn.TheVariants as insn
 use Rattle.machine_meaning.specs.States.{Val}
 use Rattle.machine_meaning.specs.States as machine
-use Rattle.machine_meaning.specs.Moves as machine_moves
 use Rattle.code_simulation.specs.Slots.{Slot, Temp}
 use Rattle.code_simulation.specs.Relation.{Dyn, Setting}
-use Rattle.code_simulation.specs.Along.{Alike, File, Here, inside, frame, env_of, Reads, source_at, machine_at, Has, Same}
+use Rattle.code_simulation.specs.Along.{Alike, File, Here, inside, env_of, Reads, machine_at, Has, Same}
 use Rattle.code_simulation.specs.Parts.{ExprRuns}
 use Rattle.code_simulation.proofs.World.{claim, pop, top_is, temp_reg, drop_slot}
 use Rattle.code_simulation.proofs.Moving.{source_goes, target_goes}

@@ -1,5 +1,5 @@
 -- Runs of `..`: the operands stand in registers, and are joined from the right.
-use Rattle.std.proofs.Common.{Bool, true, false, ◌≡◌, ℕ, zero, suc, ◌+◌, ◌-◌, ◌<◌, ◌≤◌, List, [], ◌∷◌, ◌++◌, length, Option, Some, None, refl, sym, ap, ◌∙◌, subst, arith, length-append}
+use Rattle.std.proofs.Common.{◌≡◌, ℕ, suc, ◌+◌, ◌-◌, ◌≤◌, List, [], ◌∷◌, ◌++◌, length, refl, sym, ap, ◌∙◌, subst, arith, length-append}
 use Rattle.std.specs.Prelude.{reverse, replicate}
 use Rattle.std.proofs.lemmas.List.{reverse-append, length-reverse}
 use Rattle.syntax_tree.specs.declared.tree.Expr.{Expr}
@@ -8,7 +8,6 @@ use Rattle.syntax_tree.specs.declared.tree.ExprKind.TheOpen as level
 use Rattle.value_model.specs.Values.{Value}
 use Rattle.value_model.specs.Choices.{Outcome, Done, CallThis, Errs, Halts, Concat}
 use Rattle.value_model.specs.Metamethods.{choose}
-use Rattle.source_meaning.specs.Levels.{ExprLevel}
 use Rattle.source_meaning.specs.States.{of_expr}
 use Rattle.source_meaning.specs.States as source
 use Rattle.source_meaning.specs.Moves as source_moves
@@ -18,10 +17,9 @@ use Rattle.op_words.specs.declared.insn.Insn.TheVariants as insn
 use Rattle.machine_meaning.specs.States.{values_in}
 use Rattle.machine_meaning.specs.States as machine
 use Rattle.machine_meaning.specs.Moves as machine_moves
-use Rattle.machine_meaning.specs.Steps as machine_steps
-use Rattle.code_simulation.specs.Slots.{Slot, Temp, temps, Steady}
+use Rattle.code_simulation.specs.Slots.{Slot, temps, Steady}
 use Rattle.code_simulation.specs.Relation.{Dyn, store_m, Setting}
-use Rattle.code_simulation.specs.Along.{Alike, CallsGo, File, Here, inside, frame, env_of, Reads, source_at, machine_at, Has, Same, WithValue}
+use Rattle.code_simulation.specs.Along.{Alike, CallsGo, File, Here, inside, frame, env_of, Reads, source_at, machine_at, Has, WithValue}
 use Rattle.code_simulation.specs.Parts.{ExprRuns}
 use Rattle.code_simulation.proofs.Names.{steady_all, steady_on, steady_temps, binds_temps}
 use Rattle.code_simulation.proofs.World.{pop_all}

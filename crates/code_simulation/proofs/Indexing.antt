@@ -1,5 +1,5 @@
 -- What a table holds under a key or a name; values that are moved to a register below.
-use Rattle.std.proofs.Common.{Bool, true, false, ◌≡◌, ◌≢◌, ℕ, zero, suc, ◌+◌, ◌<◌, ◌≤◌, ℤ, pos, List, [], ◌∷◌, ◌++◌, length, Option, Some, None, refl, sym, ap, ◌∙◌, subst, arith, ⊎_elim}
+use Rattle.std.proofs.Common.{Bool, ◌≡◌, ℕ, suc, ◌+◌, ◌≤◌, pos, List, [], ◌∷◌, length, Some, refl, sym, ap, ◌∙◌, arith}
 use Rattle.byte_text.specs.declared.fixed.StrId.{StrId}
 use Rattle.syntax_tree.specs.declared.tree.Expr.{Expr}
 use Rattle.syntax_tree.specs.declared.tree.ExprKind.{out-ExprKind}
@@ -18,10 +18,10 @@ use Rattle.machine_meaning.specs.States as machine
 use Rattle.machine_meaning.specs.Moves as machine_moves
 use Rattle.machine_meaning.specs.Effects as effects
 use Rattle.machine_meaning.specs.Steps as machine_steps
-use Rattle.code_simulation.specs.Slots.{Slot, Temp, temps, Tags, Fits, temp, Steady}
+use Rattle.code_simulation.specs.Slots.{Slot, Temp, temps, Tags, Fits, temp}
 use Rattle.code_simulation.specs.Relation.{Dyn, cells_m, store_m, Setting, Act, Desc, Holds}
-use Rattle.code_simulation.specs.Along.{Alike, CallsGo, File, Here, inside, frame, env_of, Reads, source_at, machine_at, Has, Same}
-use Rattle.code_simulation.specs.Parts.{Sight, in_register, constant, over, ExprRuns, OperandRuns, Stays, Operates}
+use Rattle.code_simulation.specs.Along.{Alike, CallsGo, File, Here, frame, Reads, machine_at, Has}
+use Rattle.code_simulation.specs.Parts.{Sight, in_register, constant, ExprRuns, OperandRuns, Operates}
 use Rattle.code_simulation.proofs.Names.{put_same, put_other, length_temps, steady_on}
 use Rattle.code_simulation.proofs.World.{fits_put, drop_slot, temp_reg, fits_temps, pop, top_is}
 use Rattle.code_simulation.proofs.Moving.{source_goes, target_goes}

@@ -1,10 +1,10 @@
 -- Calls of methods: the function is looked up in the object, which is its first argument.
-use Rattle.std.proofs.Common.{Bool, true, false, ◌≡◌, ◌≢◌, ℕ, zero, suc, ◌+◌, ◌<◌, ◌≤◌, ℤ, pos, List, [], ◌∷◌, ◌++◌, length, Option, Some, None, refl, sym, ap, ◌∙◌, subst, arith}
+use Rattle.std.proofs.Common.{Bool, ◌≡◌, ℕ, suc, ◌+◌, ◌≤◌, List, [], ◌∷◌, length, Some, refl, sym, ap, ◌∙◌, subst, arith}
 use Rattle.byte_text.specs.declared.fixed.StrId.{StrId}
 use Rattle.syntax_tree.specs.declared.tree.Expr.{Expr}
 use Rattle.syntax_tree.specs.declared.tree.ExprKind.{out-ExprKind}
 use Rattle.syntax_tree.specs.declared.tree.ExprKind.TheOpen as level
-use Rattle.value_model.specs.Values.{Value, Nil, Text}
+use Rattle.value_model.specs.Values.{Value, Text}
 use Rattle.value_model.specs.Choices.{Index}
 use Rattle.value_model.specs.Metamethods.{choose}
 use Rattle.source_meaning.specs.Levels.{ExprLevel}
@@ -13,7 +13,6 @@ use Rattle.source_meaning.specs.States as source
 use Rattle.source_meaning.specs.Moves as source_moves
 use Rattle.source_meaning.specs.Expressions as expressions
 use Rattle.source_meaning.specs.Expressions.{text_of}
-use Rattle.source_meaning.specs.Steps as source_steps
 use Rattle.op_words.specs.declared.insn.Insn.TheVariants as insn
 use Rattle.machine_meaning.specs.Constants.{name_at}
 use Rattle.machine_meaning.specs.States.{Val, put, held}
@@ -21,10 +20,10 @@ use Rattle.machine_meaning.specs.States as machine
 use Rattle.machine_meaning.specs.Moves as machine_moves
 use Rattle.machine_meaning.specs.Effects as effects
 use Rattle.machine_meaning.specs.Steps as machine_steps
-use Rattle.code_simulation.specs.Slots.{Slot, Temp, temps, Steady}
-use Rattle.code_simulation.specs.Relation.{Dyn, cells_m, store_s, store_m, Setting}
-use Rattle.code_simulation.specs.Along.{Alike, CallsGo, Counts, File, Here, inside, frame, env_of, Reads, source_at, machine_at, Has, Same, Receives}
-use Rattle.code_simulation.specs.Parts.{ExprRuns, AllRuns, OperandRuns, ListRuns, over, in_register}
+use Rattle.code_simulation.specs.Slots.{Slot, Temp, temps}
+use Rattle.code_simulation.specs.Relation.{Dyn, cells_m, store_m, Setting}
+use Rattle.code_simulation.specs.Along.{CallsGo, File, Here, inside, frame, env_of, Reads, machine_at, Has, Same, Receives}
+use Rattle.code_simulation.specs.Parts.{ExprRuns, AllRuns, OperandRuns, ListRuns, in_register}
 use Rattle.code_simulation.proofs.Names.{steady_all, steady_on, steady_put}
 use Rattle.code_simulation.proofs.World.{claim, push, temp_reg, drop_slot}
 use Rattle.code_simulation.proofs.Moving.{source_goes, target_goes}

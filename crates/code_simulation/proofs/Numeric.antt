@@ -1,15 +1,14 @@
 -- A numeric `for`, whose limit, step and index stand in three registers.
-use Rattle.std.proofs.Common.{Bool, true, false, ◌≡◌, ℕ, zero, suc, ◌+◌, ◌<◌, ◌≤◌, ℤ, pos, ◌+ℤ◌, List, [], ◌∷◌, ◌++◌, length, Option, Some, None, refl, sym, ap, ◌∙◌, subst, arith}
+use Rattle.std.proofs.Common.{Bool, true, false, ◌≡◌, ℕ, zero, suc, ◌+◌, ◌<◌, ◌≤◌, ℤ, ◌+ℤ◌, List, [], ◌∷◌, length, refl, ap, ◌∙◌, arith}
 use Rattle.std.specs.Prelude.{if◌then◌else◌}
 use Rattle.byte_text.specs.declared.fixed.StrId.{StrId}
 use Rattle.syntax_tree.specs.declared.tree.Stat.{Stat}
-use Rattle.value_model.specs.Values.{Value, Nil, Number}
+use Rattle.value_model.specs.Values.{Value, Number}
 use Rattle.value_model.specs.Metamethods.{as_number}
 use Rattle.value_model.specs.Loops.{Bounds, Range, Refused, Halted, bounds, goes_on}
 use Rattle.bounded_runs.specs.Runs.{Goes, Charges}
 use Rattle.source_meaning.specs.States.{Node}
 use Rattle.source_meaning.specs.States as source
-use Rattle.source_meaning.specs.Moves as source_moves
 use Rattle.source_meaning.specs.Statements as statements
 use Rattle.source_meaning.specs.Steps as source_steps
 use Rattle.op_words.specs.declared.insn.Insn.TheVariants as insn
@@ -19,18 +18,18 @@ use Rattle.machine_meaning.specs.States as machine
 use Rattle.machine_meaning.specs.Moves as machine_moves
 use Rattle.machine_meaning.specs.Effects as effects
 use Rattle.machine_meaning.specs.Steps as machine_steps
-use Rattle.code_simulation.specs.Slots.{Slot, Var, Temp, temp, Fits}
+use Rattle.code_simulation.specs.Slots.{Slot, Var, Temp}
 use Rattle.code_simulation.specs.Relation.{Dyn, cells_s, cells_m, Setting}
 use Rattle.code_simulation.specs.Along.{Alike, CallsGo, File, Here, inside, frame, env_of, waits_here, Reads, source_at, machine_at, Has, Same, SameIn}
 use Rattle.code_simulation.specs.Parts.{Forward}
-use Rattle.code_simulation.proofs.Names.{put_same, put_other}
-use Rattle.code_simulation.proofs.World.{push, pop, temp_reg, drop_slot, fits_put, holds_later}
+use Rattle.code_simulation.proofs.Names.{put_other}
+use Rattle.code_simulation.proofs.World.{push, pop, temp_reg, drop_slot, holds_later}
 use Rattle.code_simulation.proofs.Changes.{source_more, declare}
 use Rattle.code_simulation.proofs.Moving.{source_goes, target_goes, both_charge, both_stop}
 use Rattle.code_simulation.proofs.Waiting.{fault_here}
 use Rattle.code_simulation.proofs.Registers.{row_here, with_register, give_is}
 use Rattle.code_simulation.proofs.Operations.{jump_is}
-use Rattle.code_simulation.proofs.Blocks.{Jumps, looping, Backward, BlockRuns, Closes, closes_same}
+use Rattle.code_simulation.proofs.Blocks.{looping, Backward, BlockRuns, Closes, closes_same}
 
 -- numbers are their own bounds
 bounds_are : (i l s : ℤ) → bounds (Number i) (Number l) (Number s) ≡ Range i l s

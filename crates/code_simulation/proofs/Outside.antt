@@ -1,7 +1,7 @@
 -- Calls, values that are handed on and errors go along together, whatever waits for them: library functions, protected calls and the
 -- functions of the script. What coroutines do is a premise.
-use Rattle.std.proofs.Common.{Bool, true, false, not, ◌≡◌, ◌≢◌, ℕ, zero, suc, ◌+◌, ◌<◌, ◌≤◌, List, [], ◌∷◌, ◌++◌, length, Option, Some, None, refl, sym, ap, ◌∙◌, subst, arith, ◌⊎◌, ⊎_elim, inl, inr, length-append}
-use Rattle.std.specs.Prelude.{Result, Ok as Fine, Err, slice_get, slice_set, slice_index_or, replicate, ◌-◌, codes, map, if◌then◌else◌}
+use Rattle.std.proofs.Common.{Bool, true, false, ◌≡◌, ◌≢◌, ℕ, ◌<◌, List, [], ◌∷◌, ◌++◌, length, Option, Some, None, refl, sym, ap, ◌∙◌, subst, arith, ◌⊎◌, ⊎_elim, inl, inr, length-append}
+use Rattle.std.specs.Prelude.{Ok as Fine, Err, slice_get, slice_index_or, replicate, ◌-◌, codes, if◌then◌else◌}
 use Rattle.std.proofs.lemmas.List.{get_or-set_same, get_or-set_other, length-set}
 use Rattle.std.proofs.Math.ListN.{get_or-append}
 use Rattle.value_model.specs.declared.builtin.Builtin.{Builtin}
@@ -9,30 +9,28 @@ use Rattle.value_model.specs.declared.builtin.Builtin.TheVariants.{CoroutineClos
 use Rattle.value_model.specs.declared.plain.Plain.{Plain}
 use Rattle.value_model.specs.declared.event.Reply.{Reply}
 use Rattle.value_model.specs.declared.event.Reply.TheVariants as answered
-use Rattle.value_model.specs.declared.event.EventKind.{EventKind}
 use Rattle.value_model.specs.Values.{Bytes, Value, Nil, Boolean, Number, Text, Table, Closure, Native, Host, Wrap, Thread, TableRef, kind_of}
 use Rattle.value_model.specs.Errors.{RunError, CallOf, FixedEnvironment, error_text}
-use Rattle.value_model.specs.Store.{Store, here, place_of_running, environment_of, with_environment}
+use Rattle.value_model.specs.Store.{Store, here, place_of_running, with_environment}
 use Rattle.value_model.specs.Waits.{Wait, Runs, Protects, Guards, Handles, Resumes, Asks, Waits, waiting, with_waiting, leave, await, rest_of, Caller, ByScript, ByLibrary, Case, Called, Given, Passed, Answer, Gives, Enters, Calls, Throws, Stops, Fails, Waited, Continue}
 use Rattle.value_model.specs.Waits as kept
-use Rattle.value_model.specs.Choices.{Outcome, Done, CallThis, Errs}
+use Rattle.value_model.specs.Choices.{Done, CallThis, Errs}
 use Rattle.value_model.specs.Metamethods.{is_function, callee_of, callable, metamethod}
-use Rattle.value_model.specs.Answers.{CoMove, LibAnswer, Answers, PrintsLine, ErrsWith, RaisesValue, HaltsWith, CallsBack, Moves, OnEnvironment, EnvironmentUse, Reads, Replaces}
+use Rattle.value_model.specs.Answers.{CoMove, LibAnswer, Answers, PrintsLine, ErrsWith, RaisesValue, HaltsWith, CallsBack, Moves, OnEnvironment, Reads, Replaces}
 use Rattle.value_model.specs.Library.{lib, go_on}
 use Rattle.value_model.specs.Waiting as decision
 use Rattle.value_model.specs.Waiting.{wait, for_all, by_library, move_by}
-use Rattle.bounded_runs.specs.Runs.{Goes}
 use Rattle.source_meaning.specs.States as source
 use Rattle.source_meaning.specs.Calls as source_calls
 use Rattle.source_meaning.specs.Steps as source_steps
 use Rattle.machine_meaning.specs.States as machine
 use Rattle.machine_meaning.specs.Calls as machine_calls
 use Rattle.machine_meaning.specs.Steps as machine_steps
-use Rattle.code_simulation.specs.Relation.{Dyn, store_s, store_m, Around, Setting, FuncAlike, Desc, AllRest, Ok}
-use Rattle.code_simulation.specs.Along.{Alike, GivesOn, Stands, bottom, function, other, Outside, Invokes, Hands, Faults, Raises, CallsGo}
+use Rattle.code_simulation.specs.Relation.{Dyn, store_s, store_m, Setting, Desc, Ok}
+use Rattle.code_simulation.specs.Along.{Alike, Stands, function, other, Outside, Invokes, Hands, Faults, Raises, CallsGo}
 use Rattle.code_simulation.proofs.World.{keeps_all, ok_later}
 use Rattle.code_simulation.proofs.Moving.{source_goes, target_goes}
-use Rattle.code_simulation.proofs.Waiting.{stands_later, leaves, ok_leaves, waiting_left, waiting_others, innermost_s, innermost_m}
+use Rattle.code_simulation.proofs.Waiting.{stands_later, leaves, ok_leaves, innermost_s, innermost_m}
 use Rattle.code_simulation.proofs.Entering.{FuncsGo}
 use Rattle.code_simulation.proofs.Deciding.{decides, ok_decides, Later, Follows, AlikeOutside, decided_same, asked_alike}
 

@@ -1,5 +1,5 @@
 -- `repeat`: its condition sees the variables of its body, also where `continue` has left it early.
-use Rattle.std.proofs.Common.{Bool, true, false, ◌≡◌, ℕ, zero, suc, ◌+◌, ◌-◌, ◌<◌, ◌≤◌, ℤ, pos, List, [], ◌∷◌, ◌++◌, length, Option, Some, None, refl, sym, ap, ◌∙◌, subst, arith}
+use Rattle.std.proofs.Common.{Bool, true, false, ◌≡◌, ℕ, zero, suc, ◌-◌, ◌<◌, ◌≤◌, ℤ, List, [], ◌∷◌, ◌++◌, length, refl, ap, subst, arith}
 use Rattle.syntax_tree.specs.declared.tree.Expr.{Expr}
 use Rattle.syntax_tree.specs.declared.tree.Stat.{Stat}
 use Rattle.syntax_tree.specs.declared.tree.StatKind.{out-StatKind}
@@ -7,19 +7,16 @@ use Rattle.syntax_tree.specs.declared.tree.ExprKind.TheOpen as level
 use Rattle.value_model.specs.Values.{Value, is_true}
 use Rattle.bounded_runs.specs.Runs.{Charges}
 use Rattle.source_meaning.specs.States as source
-use Rattle.source_meaning.specs.Moves as source_moves
 use Rattle.source_meaning.specs.Statements as statements
 use Rattle.source_meaning.specs.Steps as source_steps
 use Rattle.op_words.specs.declared.insn.Insn.TheVariants as insn
-use Rattle.machine_meaning.specs.States as machine
-use Rattle.machine_meaning.specs.Moves as machine_moves
 use Rattle.code_simulation.specs.Slots.{Slot, Temp, temps}
 use Rattle.code_simulation.specs.Relation.{Dyn, Setting}
-use Rattle.code_simulation.specs.Along.{Alike, File, Here, inside, frame, env_of, waits_here, Reads, source_at, machine_at, Has, Same, SameIn}
-use Rattle.code_simulation.specs.Parts.{Forward, chosen, CondRuns}
+use Rattle.code_simulation.specs.Along.{File, Here, inside, env_of, waits_here, Reads, source_at, Has, Same, SameIn}
+use Rattle.code_simulation.specs.Parts.{chosen, CondRuns}
 use Rattle.code_simulation.proofs.Names.{binds_temps}
 use Rattle.code_simulation.proofs.World.{claim, holds_later}
-use Rattle.code_simulation.proofs.Moving.{source_goes, target_goes}
+use Rattle.code_simulation.proofs.Moving.{source_goes}
 use Rattle.code_simulation.proofs.Statements.{Skips, skips_same}
 use Rattle.code_simulation.proofs.Blocks.{Jumps, breaking, looping, Backward, JumpsTo, StatRuns, Closes, closes_same, stat_row, ways_rest}
 use Rattle.code_simulation.proofs.Loops.{turn_back}

@@ -1,6 +1,6 @@
 -- Local functions, and compound assignments to local variables.
-use Rattle.std.proofs.Common.{Bool, true, false, ◌≡◌, ℕ, zero, suc, ◌+◌, ◌<◌, ◌≤◌, ℤ, pos, List, [], ◌∷◌, ◌++◌, length, Option, Some, None, refl, sym, ap, ◌∙◌, subst, arith, cond}
-use Rattle.std.specs.Prelude.{slice_get, slice_set, slice_index_or, nat_eq, if◌then◌else◌}
+use Rattle.std.proofs.Common.{Bool, true, false, ◌≡◌, ℕ, suc, ◌≤◌, pos, List, [], ◌∷◌, ◌++◌, length, Some, refl, sym, ap, ◌∙◌, subst, arith, cond}
+use Rattle.std.specs.Prelude.{slice_set}
 use Rattle.std.proofs.lemmas.Bool.{eq-eqb}
 use Rattle.byte_text.specs.declared.fixed.StrId.{StrId}
 use Rattle.syntax_tree.specs.declared.tree.BinOp.{BinOp}
@@ -10,36 +10,33 @@ use Rattle.syntax_tree.specs.declared.tree.ExprKind.TheOpen as level
 use Rattle.syntax_tree.specs.declared.tree.FuncBody.{FuncBody}
 use Rattle.syntax_tree.specs.declared.tree.Stat.{Stat}
 use Rattle.syntax_tree.specs.declared.tree.StatKind.{out-StatKind}
-use Rattle.value_model.specs.Values.{Value, Nil, Closure}
+use Rattle.value_model.specs.Values.{Value, Closure}
 use Rattle.value_model.specs.Choices.{Operation}
-use Rattle.bounded_runs.specs.Runs.{Goes}
 use Rattle.source_meaning.specs.Levels.{ExprLevel}
 use Rattle.source_meaning.specs.States.{Node, Target, ToCell, of_expr, of_stat, cell_of}
 use Rattle.source_meaning.specs.States as source
 use Rattle.source_meaning.specs.Moves as source_moves
 use Rattle.source_meaning.specs.Statements as statements
-use Rattle.source_meaning.specs.Steps as source_steps
 use Rattle.op_words.specs.declared.insn.Insn.TheVariants as insn
 use Rattle.op_words.specs.Chunks.{ProtoOf}
 use Rattle.machine_meaning.specs.States.{Val, held}
 use Rattle.machine_meaning.specs.States as machine
 use Rattle.machine_meaning.specs.Moves as machine_moves
-use Rattle.machine_meaning.specs.Steps as machine_steps
-use Rattle.code_simulation.specs.Slots.{Slot, Var, Temp, Local, local_at, Steady}
-use Rattle.code_simulation.specs.Relation.{at, Dyn, cells_s, cells_m, store_s, store_m, Setting}
-use Rattle.code_simulation.specs.Along.{Alike, CallsGo, File, Here, inside, frame, env_of, Reads, source_at, machine_at, Has, Same}
+use Rattle.code_simulation.specs.Slots.{Slot, Var, Temp, Local, local_at}
+use Rattle.code_simulation.specs.Relation.{at, Dyn, cells_s, cells_m, store_s, Setting}
+use Rattle.code_simulation.specs.Along.{Alike, CallsGo, File, Here, inside, env_of, Reads, source_at, machine_at, Has, Same}
 use Rattle.code_simulation.specs.Parts.{Sight, over, in_register, OperandRuns, Stays, Operates}
-use Rattle.code_simulation.proofs.Names.{look_in, steady_all, steady_on}
+use Rattle.code_simulation.proofs.Names.{look_in, steady_all}
 use Rattle.code_simulation.proofs.World.{claim, pop, top_is, read, read_plain}
 use Rattle.code_simulation.proofs.Changes.{source_more, declare}
 use Rattle.code_simulation.proofs.Moving.{source_goes, target_goes}
-use Rattle.code_simulation.proofs.Registers.{row_here, given, with_register}
+use Rattle.code_simulation.proofs.Registers.{row_here, given}
 use Rattle.code_simulation.proofs.Operations.{value_here}
 use Rattle.code_simulation.proofs.Values.{own_stays, local_stays}
 use Rattle.code_simulation.proofs.Operators.{IsOperation, operate_row, under}
-use Rattle.code_simulation.proofs.Functions.{Captures, Child, Took, take_same, made, made_holds, closure_row, with_registers, written}
+use Rattle.code_simulation.proofs.Functions.{Captures, Child, take_same, made, made_holds, closure_row, with_registers, written}
 use Rattle.code_simulation.proofs.Blocks.{Jumps, StatRuns, stat_row}
-use Rattle.code_simulation.proofs.Assigns.{Writes, to_local, write_same}
+use Rattle.code_simulation.proofs.Assigns.{Writes, write_same}
 
 set_last : (xs : List Value) (v u : Value) → slice_set (xs ++ v ∷ []) (length xs) u ≡ xs ++ u ∷ []
 set_last [] v u = refl

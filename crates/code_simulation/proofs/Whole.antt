@@ -1,33 +1,29 @@
 -- From the functions of a script to its run: each run of the script is that of its code.
-use Rattle.std.proofs.Common.{Bool, true, false, not, ◌&&◌, ◌||◌, ◌≡◌, ◌≢◌, ℕ, zero, suc, ◌+◌, ◌<◌, ◌≤◌, List, [], ◌∷◌, ◌++◌, length, Option, Some, None, refl, sym, ap, ◌∙◌, subst, arith, ◌⊎◌, ⊎_elim, inl, inr}
-use Rattle.std.specs.Prelude.{slice_get, take, drop}
-use Rattle.std.specs.List.{list_any}
+use Rattle.std.proofs.Common.{Bool, true, false, not, ◌&&◌, ◌||◌, ◌≡◌, ℕ, zero, suc, ◌<◌, ◌≤◌, List, [], ◌∷◌, ◌++◌, length, Some, refl, sym, ap, ◌∙◌, subst, arith, ⊎_elim}
+use Rattle.std.specs.Prelude.{slice_get, take}
 use Rattle.std.proofs.lemmas.Bool.{cases_eq}
-use Rattle.byte_text.specs.declared.fixed.StrId.{StrId}
-use Rattle.syntax_tree.specs.declared.tree.FuncBody.{FuncBody, out-FuncBody}
+use Rattle.syntax_tree.specs.declared.tree.FuncBody.{out-FuncBody}
 use Rattle.syntax_tree.specs.declared.tree.Tree.{Tree}
 use Rattle.value_model.specs.declared.event.EventKind.{EventKind}
 use Rattle.value_model.specs.declared.event.Reply.{Reply}
-use Rattle.value_model.specs.Values.{Value, TableRef}
+use Rattle.value_model.specs.Values.{Value}
 use Rattle.value_model.specs.Store.{here, same_table, script_environment}
 use Rattle.value_model.specs.Fresh.{HostFields, fresh}
-use Rattle.value_model.specs.Waits.{Wait, Runs}
+use Rattle.value_model.specs.Waits.{Runs}
 use Rattle.bounded_runs.specs.Runs.{Report, Agree}
 use Rattle.bounded_runs.proofs.Together as together
 use Rattle.source_meaning.specs.States as source
 use Rattle.source_meaning.specs.Moves as source_moves
 use Rattle.source_meaning.specs.Calls as source_calls
-use Rattle.source_meaning.specs.Steps as source_steps
 use Rattle.source_meaning.specs.Runs.{start, SourceRun}
 use Rattle.op_words.specs.Chunks.{ProtoOf}
-use Rattle.machine_meaning.specs.Chunks.{proto_at, size_of}
+use Rattle.machine_meaning.specs.Chunks.{size_of}
 use Rattle.machine_meaning.specs.States.{filled}
 use Rattle.machine_meaning.specs.States as machine
 use Rattle.machine_meaning.specs.Moves as machine_moves
 use Rattle.machine_meaning.specs.Calls as machine_calls
-use Rattle.machine_meaning.specs.Steps as machine_steps
 use Rattle.machine_meaning.specs.Runs.{loaded, MachineRun}
-use Rattle.code_simulation.specs.Slots.{Tag, Nobody, Of, Taken}
+use Rattle.code_simulation.specs.Slots.{Nobody, Of, Taken}
 use Rattle.code_simulation.specs.Relation.{Dyn, bodies_s, bodies_m, Setting, Code, FuncAlike, Base, Ok}
 use Rattle.code_simulation.specs.Along.{Alike, CallsGo, bottom}
 use Rattle.code_simulation.proofs.Names.{same_some, none_some}
