@@ -26,4 +26,5 @@ pub mod Concats
 pub mod Indexing
 pub mod Methods
 pub mod Bounds
+pub mod Singles
 pub mod Whole
