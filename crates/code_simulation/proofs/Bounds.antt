@@ -74,7 +74,8 @@ module _ (p : Setting) (most : ℕ) where
       (step_runs v2 old v1 i (omega (arith, le, lt)) (source.Stride (of_stat s) x v1 v2 body ∷ k) d2 file2 w2
       (λ j lt2 v3 d3 file3 w3 steady.
       move_down p most (v1 ∷ v3 ∷ []) h (Temp v2 ∷ l) old v3 m4 m5 j (suc (suc (suc (length l)))) _ d3 file3 move2 (top_is w3) w3
-      (λ w4. loop j (omega (arith, le, lt, lt2)) k (λ n lt3. go n (omega (arith, lt, lt2, lt3)) 0) v2 v3 v1 d3 (with_register p most file3 (suc (length l)) v3) (pop w4) _ refl))))
+      (λ w4. loop j (omega (arith, le, lt, lt2)) k (λ n lt3. go n (omega (arith, lt, lt2, lt3)) 0) v2 v3 v1 d3
+      (with_register p most file3 (suc (length l)) v3) (pop w4) _ refl))))
 
   -- one whose step is 1
   pub for_same : (s : Stat) (x : StrId) (start limit : Expr) (body : List Stat) (h : Here p most) (l : List Slot) (j0 : Jumps)
@@ -90,5 +91,6 @@ module _ (p : Setting) (most : ℕ) where
       (target_goes p
       (loads_row p most h m3 (suc (length l)) m4 (Number (pos 1)) file2 d2 loads
       ∙ give_is p most h machine.Idle (suc (length l)) m4 m3 (Number (pos 1)) old file2 d2.code (temp_reg (drop_slot w2.fits)))
-      (loop i (omega (arith, le, lt)) k (λ n lt2. go n (omega (arith, lt, lt2)) 0) v2 (Number (pos 1)) v1 d2 (with_register p most file2 (suc (length l)) (Number (pos 1)))
+      (loop i (omega (arith, le, lt)) k (λ n lt2. go n (omega (arith, lt, lt2)) 0) v2 (Number (pos 1)) v1 d2
+      (with_register p most file2 (suc (length l)) (Number (pos 1)))
       (set_temp (v1 ∷ []) (Temp v2 ∷ l) old (Number (pos 1)) w2) _ refl)))

@@ -100,7 +100,8 @@ module _ (p : Setting) (most : ℕ) where
       ≡ machine_moves.settle (choose (Index v (Text bs)) (store_m d)) (machine.Into to next) (frame p most h place file) h.below_m d.code
   name_row h place a c to next v bs d file reads name see =
       row_here p most h place next file d (insn.GetTableKS to a c) reads
-      ∙ ap (λ o. effects.with_name o (λ x. effects.index (held (cells_m d) (file.registers a)) (Text x) to next) (frame p most h place file) h.below_m d.code) name
+      ∙ ap (λ o. effects.with_name o (λ x. effects.index (held (cells_m d) (file.registers a)) (Text x) to next)
+      (frame p most h place file) h.below_m d.code) name
       ∙ ap (λ z. effects.index (held (cells_m d) z) (Text bs) to next (frame p most h place file) h.below_m d.code) see
 
 module _ (p : Setting) (most : ℕ) (calls : (i : ℕ) → i ≤ most → CallsGo p i) where

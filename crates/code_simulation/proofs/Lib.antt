@@ -27,5 +27,5 @@ pub mod Indexing
 pub mod Methods
 pub mod Bounds
 pub mod Singles
-pub mod ConstantTests
+pub mod Comparisons
 pub mod Whole

@@ -47,12 +47,15 @@ module _ (p : Setting) (most : ℕ) (calls : (i : ℕ) → i ≤ most → CallsG
       → Reads p most h place (insn.NameCall a r c) next → name_at p.chunk h.number c ≡ Some bs
       → file.registers r ≡ Val v → file.registers (suc a) ≡ Val u
       → machine_steps.step p.chunk (machine_at p most h place file d)
-      ≡ machine_moves.settle (choose (Index v (Text bs)) (store_m d)) (machine.Into a next) (frame p most h place (with_register p most file (suc a) v)) h.below_m d.code
+      ≡ machine_moves.settle (choose (Index v (Text bs)) (store_m d)) (machine.Into a next)
+      (frame p most h place (with_register p most file (suc a) v)) h.below_m d.code
   look_up_row h place next a r c v u bs d file reads name see free =
       let fr = frame p most h place file in
       row_here p most h place next file d (insn.NameCall a r c) reads
-      ∙ ap (λ o. effects.with_name o (λ x f fs w. machine_moves.on (effects.index (machine.value_in f w r) (Text x) a next) (machine.set (a + 1) (machine.value_in f w r) (machine_moves.inside f w)) fs) fr h.below_m d.code) name
-      ∙ ap (λ y. machine_moves.on (effects.index (held (cells_m d) y) (Text bs) a next) (machine.set (a + 1) (held (cells_m d) y) (machine_moves.inside fr d.code)) h.below_m) see
+      ∙ ap (λ o. effects.with_name o (λ x f fs w. machine_moves.on (effects.index (machine.value_in f w r) (Text x) a next)
+      (machine.set (a + 1) (machine.value_in f w r) (machine_moves.inside f w)) fs) fr h.below_m d.code) name
+      ∙ ap (λ y. machine_moves.on (effects.index (held (cells_m d) y) (Text bs) a next)
+      (machine.set (a + 1) (held (cells_m d) y) (machine_moves.inside fr d.code)) h.below_m) see
       ∙ ap (λ n. machine_moves.on (effects.index v (Text bs) a next) (machine.set n v (machine_moves.inside fr d.code)) h.below_m) (omega arith)
       ∙ ap (λ y. machine_moves.on (effects.index v (Text bs) a next) (machine.write y (suc a) v (machine_moves.inside fr d.code)) h.below_m) free
 
@@ -88,7 +91,8 @@ module _ (p : Setting) (most : ℕ) (calls : (i : ℕ) → i ≤ most → CallsG
       (λ m lt3 vs d6 file6 w7 counts steady3.
       let steady_object = steady_put l file.registers (suc (length l)) (Val v) (omega arith) in
       let steady_function = steady_put l file3.registers (length l) (Val f) (omega arith) in
-      invoke_same p most calls node (source.Wants n) (one_more arguments) count h l last to m (omega (arith, le, lt2, lt3)) k f (v ∷ vs) d6 file0 file6 reads (omega (arith, room)) w7
+      invoke_same p most calls node (source.Wants n) (one_more arguments) count h l last to m (omega (arith, le, lt2, lt3)) k f
+      (v ∷ vs) d6 file0 file6 reads (omega (arith, room)) w7
       (counts_more arguments (length vs) (suc (length l)) file6.top counts)
       (steady_on l _ _ _ steady (steady_on l _ _ _ steady_object (steady_on l _ _ _ steady2 (steady_on l _ _ _ steady_function steady3))))
       (λ q2 lt4. go q2 (omega (arith, lt2, lt3, lt4))) _ refl))))
@@ -108,7 +112,8 @@ module _ (p : Setting) (most : ℕ) (calls : (i : ℕ) → i ≤ most → CallsG
   method_goes node n object x args own r c arguments count h l from mid next last to runs look name args_run reads room left le k d file w go =
       runs left le (source.Object node x args n ∷ k) d file w
       (λ i lt v d2 file2 w2 see steady.
-      found_goes node n (text_of p.texts x) args r c arguments count h l mid next last to look name args_run reads room i (omega (arith, le, lt)) k v d2 file file2
+      found_goes node n (text_of p.texts x) args r c arguments count h l mid next last to look name args_run reads room i
+      (omega (arith, le, lt)) k v d2 file file2
       (under p most own v h l d2 file2 w2) steady see (λ j lt2. go j (omega (arith, lt, lt2))) _ refl)
 
   -- a method call as one value
@@ -124,7 +129,8 @@ module _ (p : Setting) (most : ℕ) (calls : (i : ℕ) → i ≤ most → CallsG
       (method_goes (of_expr e) source.One object x args own r c arguments 2 h l from mid next last to runs look name args_run reads room left le k d file w
       (λ i lt vs d2 file2 w2 steady. source_goes p refl
       (results_arrive p most h l i 2 to last vs d2 file2 w2 _
-      (λ file3 w3 counts steady2. go i lt (source_moves.first vs) d2 file3 (subst (λ us. Has p most h i (temps us l) d2 file3) (adjusted_one vs) w3) (steady_on l _ _ _ steady steady2)))))
+      (λ file3 w3 counts steady2. go i lt (source_moves.first vs) d2 file3 (subst (λ us. Has p most h i (temps us l) d2 file3) (adjusted_one vs) w3)
+      (steady_on l _ _ _ steady steady2)))))
 
   -- and all its values, of which so many come to stand in registers
   pub method_all : (e object : Expr) (x : StrId) (args : List Expr) (own : Bool) (r c arguments count : ℕ) (h : Here p most) (l : List Slot)
@@ -149,7 +155,8 @@ module _ (p : Setting) (most : ℕ) (calls : (i : ℕ) → i ≤ most → CallsG
       → ((f v : Value) → ListRuns p most args h (Temp v ∷ Temp f ∷ l) next last arguments (λ vs. vs))
       → Reads p most h last (insn.Call (length l) (one_more arguments) 1) to → suc (suc (length l)) ≤ h.proto.registers
       → StatRuns p most s h l j from to (λ n. l)
-  method_stat_same s e object x args own r c arguments h l j from mid next last to kind call_kind runs look name args_run reads room left le k d file w ways go =
+  method_stat_same s e object x args own r c arguments h l j from mid next last to kind call_kind runs look name args_run reads room left le k d file
+      w ways go =
       source_goes p
       (stat_row p most s _ h l k d kind
       ∙ ap (λ (y : ExprLevel). expressions.begin_call y source.Nothing (of_expr e) (inside p most h) k (env_of p most h l) d.script) call_kind)
@@ -172,9 +179,11 @@ module _ (p : Setting) (most : ℕ) (calls : (i : ℕ) → i ≤ most → CallsG
       let w1 = push v w in
       target_goes p
       (loads_row p most h from (length l) mid v file d loads ∙ give_is p most h machine.Idle (length l) mid from v free.0 file d.code free.1)
-      (found_goes (of_expr e) source.One (codes "format") args (length l) c arguments 2 h l mid next last to look name args_run reads room left le k v d file file1
+      (found_goes (of_expr e) source.One (codes "format") args (length l) c arguments 2 h l mid next last to look name args_run reads room left le k v
+      d file file1
       (pop w1) (steady_put l file.registers (length l) (Val v) (omega arith)) (top_is w1)
       (λ i lt vs d2 file2 w2 steady. source_goes p refl
       (results_arrive p most h l i 2 to last vs d2 file2 w2 _
-      (λ file3 w3 counts steady2. go i lt (source_moves.first vs) d2 file3 (subst (λ us. Has p most h i (temps us l) d2 file3) (adjusted_one vs) w3) (steady_on l _ _ _ steady steady2))))
+      (λ file3 w3 counts steady2. go i lt (source_moves.first vs) d2 file3 (subst (λ us. Has p most h i (temps us l) d2 file3) (adjusted_one vs) w3)
+      (steady_on l _ _ _ steady steady2))))
       _ (begin_row p most e _ h l k d kind))
