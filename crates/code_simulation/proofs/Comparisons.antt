@@ -1,5 +1,5 @@
 -- Comparisons: of two registers, and with a constant, for which no metamethod is asked.
-use Rattle.std.proofs.Common.{Bool, true, false, not, ◌≡◌, ℕ, zero, suc, ◌+◌, ◌≤◌, ℤ, pos, List, [], ◌∷◌, length, Option, Some, None, refl, sym, ap, ◌∙◌, subst, arith}
+use Rattle.std.proofs.Common.{Bool, false, ◌≡◌, ℕ, ℤ, pos, List, [], ◌∷◌, Some, refl, ap, ◌∙◌, subst}
 use Rattle.std.specs.Prelude.{nat_eq, ◌^◌, ◌/◌, ◌%◌, codes, if◌then◌else◌}
 use Rattle.syntax_tree.specs.declared.tree.BinOp.{BinOp}
 use Rattle.syntax_tree.specs.declared.tree.Expr.{Expr}
@@ -7,11 +7,11 @@ use Rattle.syntax_tree.specs.declared.tree.ExprKind.{out-ExprKind}
 use Rattle.syntax_tree.specs.declared.tree.ExprKind.TheOpen as level
 use Rattle.value_model.specs.declared.operator.CompareOp.{CompareOp}
 use Rattle.value_model.specs.declared.operator.CompareOp.TheVariants as compare_op
-use Rattle.value_model.specs.Values.{Value, Nil, Boolean, Number, Text, Table, Closure, Native, Host, Wrap, Thread, is_true}
+use Rattle.value_model.specs.Values.{Value, Nil, Boolean, Number, Text, Table}
 use Rattle.value_model.specs.Store.{Store}
 use Rattle.value_model.specs.Tables.{same}
-use Rattle.value_model.specs.Choices.{Compare, Choice, Done}
-use Rattle.value_model.specs.Metamethods.{choose, compare, equal, call_or_else, metamethod_of_two, is_different_table}
+use Rattle.value_model.specs.Choices.{Compare, Done}
+use Rattle.value_model.specs.Metamethods.{choose, compare, call_or_else, metamethod_of_two, is_different_table}
 use Rattle.source_meaning.specs.States.{of_expr}
 use Rattle.source_meaning.specs.States as source
 use Rattle.source_meaning.specs.Moves as source_moves
@@ -27,8 +27,8 @@ use Rattle.machine_meaning.specs.Effects as effects
 use Rattle.machine_meaning.specs.Steps as machine_steps
 use Rattle.code_simulation.specs.Slots.{Slot}
 use Rattle.code_simulation.specs.Relation.{Dyn, cells_m, store_s, store_m, Setting}
-use Rattle.code_simulation.specs.Along.{Alike, File, Here, inside, frame, env_of, Reads, source_at, machine_at, Has, Same}
-use Rattle.code_simulation.specs.Parts.{Forward, chosen, Sight, in_register, constant, over, OperandRuns, Stays, AnswerRuns}
+use Rattle.code_simulation.specs.Along.{File, Here, inside, frame, env_of, Reads, machine_at, Same}
+use Rattle.code_simulation.specs.Parts.{Forward, chosen, in_register, constant, over, OperandRuns, Stays, AnswerRuns}
 use Rattle.code_simulation.proofs.Moving.{source_goes, target_goes}
 use Rattle.code_simulation.proofs.Registers.{row_here}
 use Rattle.code_simulation.proofs.Conditions.{boolean_is}

@@ -1,5 +1,5 @@
 -- Which expressions give one value, by their kinds; and a small body whose run is put together from the parts.
-use Rattle.std.proofs.Common.{Bool, true, false, ◌≡◌, ℕ, zero, suc, ◌≤◌, ℤ, List, [], ◌∷◌, length, Option, Some, None, refl, sym, ap, ◌∙◌, arith}
+use Rattle.std.proofs.Common.{Bool, true, false, ◌≡◌, ℕ, ◌≤◌, ℤ, List, [], ◌∷◌, Some, refl, ap, ◌∙◌}
 use Rattle.byte_text.specs.declared.fixed.StrId.{StrId}
 use Rattle.syntax_tree.specs.declared.tree.Expr.{Expr}
 use Rattle.syntax_tree.specs.declared.tree.ExprKind.{out-ExprKind}
@@ -12,7 +12,7 @@ use Rattle.source_meaning.specs.States as source
 use Rattle.source_meaning.specs.Moves as source_moves
 use Rattle.source_meaning.specs.Expressions as expressions
 use Rattle.op_words.specs.declared.insn.Insn.TheVariants as insn
-use Rattle.code_simulation.specs.Slots.{Slot, Var, local_at, vars}
+use Rattle.code_simulation.specs.Slots.{Var, local_at, vars}
 use Rattle.code_simulation.specs.Relation.{Setting}
 use Rattle.code_simulation.specs.Along.{CallsGo, Here, Reads}
 use Rattle.code_simulation.proofs.Values.{number_constant, constant_same, loads_number, local_same}
