@@ -26,8 +26,8 @@ use Rattle.machine_meaning.specs.Moves as machine_moves
 use Rattle.machine_meaning.specs.Effects as effects
 use Rattle.code_simulation.specs.Slots.{Slot, Temp, Local, local_at, temps}
 use Rattle.code_simulation.specs.Relation.{Dyn, cells_m, store_s, store_m, Setting}
-use Rattle.code_simulation.specs.Along.{Alike, CallsGo, File, Here, inside, frame, env_of, Reads, source_at, machine_at, Has, Same}
-use Rattle.code_simulation.specs.Parts.{ListRuns}
+use Rattle.code_simulation.proofs.Along.{Alike, CallsGo, File, Here, inside, frame, env_of, Reads, source_at, machine_at, Has, Same}
+use Rattle.code_simulation.proofs.Parts.{ListRuns}
 use Rattle.code_simulation.proofs.Names.{look_in, look_out, binds_temps, local_temps, length_temps, steady_all}
 use Rattle.code_simulation.proofs.World.{ups_at, fits_temps, temp_reg, pop_all}
 use Rattle.code_simulation.proofs.Changes.{both_set, assign_shared}

@@ -12,8 +12,8 @@ use Rattle.op_words.specs.declared.insn.Insn.TheVariants as insn
 use Rattle.machine_meaning.specs.States as machine
 use Rattle.code_simulation.specs.Slots.{Slot, Above, Plainly}
 use Rattle.code_simulation.specs.Relation.{Dyn, cells_m, Setting}
-use Rattle.code_simulation.specs.Along.{Alike, File, Here, inside, frame, env_of, Reads, source_at, machine_at, Has, Same, SameIn}
-use Rattle.code_simulation.specs.Parts.{Forward}
+use Rattle.code_simulation.proofs.Along.{Alike, File, Here, inside, frame, env_of, Reads, source_at, machine_at, Has, Same, SameIn}
+use Rattle.code_simulation.proofs.Parts.{Forward}
 use Rattle.code_simulation.proofs.Names.{plainly_above}
 use Rattle.code_simulation.proofs.World.{loosely, close, drop_above, drop_plainly}
 use Rattle.code_simulation.proofs.Moving.{source_goes, target_goes}

@@ -16,8 +16,8 @@ use Rattle.machine_meaning.specs.States.{Val}
 use Rattle.machine_meaning.specs.States as machine
 use Rattle.code_simulation.specs.Slots.{Slot, Temp}
 use Rattle.code_simulation.specs.Relation.{Dyn, Setting}
-use Rattle.code_simulation.specs.Along.{Alike, File, Here, inside, env_of, Reads, machine_at, Has, Same}
-use Rattle.code_simulation.specs.Parts.{ExprRuns}
+use Rattle.code_simulation.proofs.Along.{Alike, File, Here, inside, env_of, Reads, machine_at, Has, Same}
+use Rattle.code_simulation.proofs.Parts.{ExprRuns}
 use Rattle.code_simulation.proofs.World.{claim, pop, top_is, temp_reg, drop_slot}
 use Rattle.code_simulation.proofs.Moving.{source_goes, target_goes}
 use Rattle.code_simulation.proofs.Registers.{with_register, give_is}

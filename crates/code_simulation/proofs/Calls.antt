@@ -19,8 +19,8 @@ use Rattle.machine_meaning.specs.Effects as effects
 use Rattle.machine_meaning.specs.Steps as machine_steps
 use Rattle.code_simulation.specs.Slots.{Slot, Temp, temps, Steady}
 use Rattle.code_simulation.specs.Relation.{Dyn, cells_m, Setting}
-use Rattle.code_simulation.specs.Along.{Alike, CallsGo, Counts, File, Here, inside, frame, env_of, Reads, machine_at, Has, Same, Receives}
-use Rattle.code_simulation.specs.Parts.{ExprRuns, AllRuns, ListRuns}
+use Rattle.code_simulation.proofs.Along.{Alike, CallsGo, Counts, File, Here, inside, frame, env_of, Reads, machine_at, Has, Same, Receives}
+use Rattle.code_simulation.proofs.Parts.{ExprRuns, AllRuns, ListRuns}
 use Rattle.code_simulation.proofs.Names.{steady_on}
 use Rattle.code_simulation.proofs.World.{fits_temps, temp_reg, pop, pop_all}
 use Rattle.code_simulation.proofs.Moving.{source_goes, target_goes}

@@ -27,8 +27,8 @@ use Rattle.machine_meaning.specs.Effects as effects
 use Rattle.machine_meaning.specs.Steps as machine_steps
 use Rattle.code_simulation.specs.Slots.{Slot}
 use Rattle.code_simulation.specs.Relation.{Dyn, cells_m, store_s, store_m, Setting}
-use Rattle.code_simulation.specs.Along.{File, Here, inside, frame, env_of, Reads, machine_at, Same}
-use Rattle.code_simulation.specs.Parts.{Forward, chosen, in_register, constant, over, OperandRuns, Stays, AnswerRuns}
+use Rattle.code_simulation.proofs.Along.{File, Here, inside, frame, env_of, Reads, machine_at, Same}
+use Rattle.code_simulation.proofs.Parts.{Forward, chosen, in_register, constant, over, OperandRuns, Stays, AnswerRuns}
 use Rattle.code_simulation.proofs.Moving.{source_goes, target_goes}
 use Rattle.code_simulation.proofs.Registers.{row_here}
 use Rattle.code_simulation.proofs.Conditions.{boolean_is}

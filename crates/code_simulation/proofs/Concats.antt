@@ -19,8 +19,8 @@ use Rattle.machine_meaning.specs.States as machine
 use Rattle.machine_meaning.specs.Moves as machine_moves
 use Rattle.code_simulation.specs.Slots.{Slot, temps, Steady}
 use Rattle.code_simulation.specs.Relation.{Dyn, store_m, Setting}
-use Rattle.code_simulation.specs.Along.{Alike, CallsGo, File, Here, inside, frame, env_of, Reads, source_at, machine_at, Has, WithValue}
-use Rattle.code_simulation.specs.Parts.{ExprRuns}
+use Rattle.code_simulation.proofs.Along.{Alike, CallsGo, File, Here, inside, frame, env_of, Reads, source_at, machine_at, Has, WithValue}
+use Rattle.code_simulation.proofs.Parts.{ExprRuns}
 use Rattle.code_simulation.proofs.Names.{steady_all, steady_on, steady_temps, binds_temps}
 use Rattle.code_simulation.proofs.World.{pop_all}
 use Rattle.code_simulation.proofs.Moving.{source_goes, target_goes}

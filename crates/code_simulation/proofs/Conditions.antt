@@ -20,8 +20,8 @@ use Rattle.machine_meaning.specs.Moves as machine_moves
 use Rattle.machine_meaning.specs.Steps as machine_steps
 use Rattle.code_simulation.specs.Slots.{Slot}
 use Rattle.code_simulation.specs.Relation.{Dyn, cells_m, Setting}
-use Rattle.code_simulation.specs.Along.{File, Here, inside, frame, env_of, Reads, source_at, machine_at, Same}
-use Rattle.code_simulation.specs.Parts.{Forward, chosen, in_register, ExprRuns, OperandRuns, CondRuns, AnswerRuns, PickRuns}
+use Rattle.code_simulation.proofs.Along.{File, Here, inside, frame, env_of, Reads, source_at, machine_at, Same}
+use Rattle.code_simulation.proofs.Parts.{Forward, chosen, in_register, ExprRuns, OperandRuns, CondRuns, AnswerRuns, PickRuns}
 use Rattle.code_simulation.proofs.Names.{steady_all, steady_on}
 use Rattle.code_simulation.proofs.World.{pop, top_is}
 use Rattle.code_simulation.proofs.Moving.{source_goes, target_goes}

@@ -23,7 +23,7 @@ use Rattle.machine_meaning.specs.States as machine
 use Rattle.machine_meaning.specs.Calls as machine_calls
 use Rattle.machine_meaning.specs.Steps as machine_steps
 use Rattle.code_simulation.specs.Relation.{Dyn, bodies_s, bodies_m, store_s, store_m, Setting, FuncAlike, Base, Desc, AllRest, Ok}
-use Rattle.code_simulation.specs.Along.{Alike, Outside, Invokes, Hands, Faults, Raises, focus_s, focus_m}
+use Rattle.code_simulation.proofs.Along.{Alike, Outside, Invokes, Hands, Faults, Raises, focus_s, focus_m}
 use Rattle.code_simulation.proofs.Changes.{append_nil}
 use Rattle.code_simulation.proofs.Moving.{source_goes, target_goes, both_charge, both_show, both_stop}
 use Rattle.code_simulation.proofs.Entering.{entered_s, entered_m}

@@ -16,7 +16,7 @@ use Rattle.machine_meaning.specs.States as machine
 use Rattle.machine_meaning.specs.Calls as machine_calls
 use Rattle.code_simulation.specs.Slots.{Slot, Temp, temps, vars}
 use Rattle.code_simulation.specs.Relation.{Dyn, cells_s, cells_m, changed, Setting, UpsAlike, Code, Act, Desc, Ok, Holds}
-use Rattle.code_simulation.specs.Along.{Alike, Stands, CallsGo, File, Here, Reads, machine_at}
+use Rattle.code_simulation.proofs.Along.{Alike, Stands, CallsGo, File, Here, Reads, machine_at}
 use Rattle.code_simulation.proofs.Names.{binds_vars}
 use Rattle.code_simulation.proofs.World.{claim}
 use Rattle.code_simulation.proofs.Changes.{declare_all, start_holds}

@@ -22,8 +22,8 @@ use Rattle.machine_meaning.specs.Effects as effects
 use Rattle.machine_meaning.specs.Steps as machine_steps
 use Rattle.code_simulation.specs.Slots.{Slot, Local, local_at, Of, Taken, Tags, Steady}
 use Rattle.code_simulation.specs.Relation.{Dyn, cells_s, cells_m, store_s, store_m, changed, Setting, UpsAlike, Code}
-use Rattle.code_simulation.specs.Along.{File, Here, inside, frame, env_of, Reads, machine_at, Has}
-use Rattle.code_simulation.specs.Parts.{ExprRuns}
+use Rattle.code_simulation.proofs.Along.{File, Here, inside, frame, env_of, Reads, machine_at, Has}
+use Rattle.code_simulation.proofs.Parts.{ExprRuns}
 use Rattle.code_simulation.proofs.Names.{look_in, look_out, steady_all, steady_on, steady_captured, mark_same}
 use Rattle.code_simulation.proofs.World.{find, ups_at}
 use Rattle.code_simulation.proofs.Changes.{append_nil, append_one, opens, makes, source_set, both_set, open_cell, make_closure, assign_private, assign_shared, opened_keeps}

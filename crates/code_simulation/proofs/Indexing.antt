@@ -20,8 +20,8 @@ use Rattle.machine_meaning.specs.Effects as effects
 use Rattle.machine_meaning.specs.Steps as machine_steps
 use Rattle.code_simulation.specs.Slots.{Slot, Temp, temps, Tags, Fits, temp}
 use Rattle.code_simulation.specs.Relation.{Dyn, cells_m, store_m, Setting, Act, Desc, Holds}
-use Rattle.code_simulation.specs.Along.{Alike, CallsGo, File, Here, frame, Reads, machine_at, Has}
-use Rattle.code_simulation.specs.Parts.{Sight, in_register, constant, ExprRuns, OperandRuns, Operates}
+use Rattle.code_simulation.proofs.Along.{Alike, CallsGo, File, Here, frame, Reads, machine_at, Has}
+use Rattle.code_simulation.proofs.Parts.{Sight, in_register, constant, ExprRuns, OperandRuns, Operates}
 use Rattle.code_simulation.proofs.Names.{put_same, put_other, length_temps, steady_on}
 use Rattle.code_simulation.proofs.World.{fits_put, drop_slot, temp_reg, fits_temps, pop, top_is}
 use Rattle.code_simulation.proofs.Moving.{source_goes, target_goes}

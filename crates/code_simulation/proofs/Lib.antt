@@ -1,3 +1,5 @@
+pub mod Along
+pub mod Parts
 pub mod Names
 pub mod World
 pub mod Changes

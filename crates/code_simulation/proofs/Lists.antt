@@ -13,8 +13,8 @@ use Rattle.op_words.specs.declared.insn.Insn.TheVariants as insn
 use Rattle.machine_meaning.specs.States as machine
 use Rattle.code_simulation.specs.Slots.{Slot, Temp, temps, Steady}
 use Rattle.code_simulation.specs.Relation.{Dyn, Setting}
-use Rattle.code_simulation.specs.Along.{Alike, Counts, File, Here, inside, env_of, Reads, machine_at, Has, Same}
-use Rattle.code_simulation.specs.Parts.{ExprRuns, AllRuns, ListRuns}
+use Rattle.code_simulation.proofs.Along.{Alike, Counts, File, Here, inside, env_of, Reads, machine_at, Has, Same}
+use Rattle.code_simulation.proofs.Parts.{ExprRuns, AllRuns, ListRuns}
 use Rattle.code_simulation.proofs.Names.{steady_all, steady_on, steady_put}
 use Rattle.code_simulation.proofs.World.{push, pop}
 use Rattle.code_simulation.proofs.Changes.{append_nil, append_one}

@@ -13,8 +13,8 @@ use Rattle.op_words.specs.declared.insn.Insn.TheVariants as insn
 use Rattle.machine_meaning.specs.Moves as machine_moves
 use Rattle.code_simulation.specs.Slots.{Slot}
 use Rattle.code_simulation.specs.Relation.{Dyn, Setting}
-use Rattle.code_simulation.specs.Along.{Alike, File, Here, inside, frame, env_of, waits_here, Reads, source_at, machine_at, Has, Same, SameIn}
-use Rattle.code_simulation.specs.Parts.{chosen, CondRuns}
+use Rattle.code_simulation.proofs.Along.{Alike, File, Here, inside, frame, env_of, waits_here, Reads, source_at, machine_at, Has, Same, SameIn}
+use Rattle.code_simulation.proofs.Parts.{chosen, CondRuns}
 use Rattle.code_simulation.proofs.World.{holds_later}
 use Rattle.code_simulation.proofs.Moving.{source_goes, both_charge}
 use Rattle.code_simulation.proofs.Registers.{row_here}

@@ -26,8 +26,8 @@ use Rattle.machine_meaning.specs.Effects as effects
 use Rattle.machine_meaning.specs.Steps as machine_steps
 use Rattle.code_simulation.specs.Slots.{Slot, Temp, temps, Steady}
 use Rattle.code_simulation.specs.Relation.{Dyn, cells_m, store_m, Setting}
-use Rattle.code_simulation.specs.Along.{Alike, CallsGo, File, Here, inside, frame, env_of, Reads, machine_at, Has, Same, Receives}
-use Rattle.code_simulation.specs.Parts.{ExprRuns, AllRuns, OperandRuns, ListRuns, in_register}
+use Rattle.code_simulation.proofs.Along.{Alike, CallsGo, File, Here, inside, frame, env_of, Reads, machine_at, Has, Same, Receives}
+use Rattle.code_simulation.proofs.Parts.{ExprRuns, AllRuns, OperandRuns, ListRuns, in_register}
 use Rattle.code_simulation.proofs.Names.{steady_all, steady_on, steady_put}
 use Rattle.code_simulation.proofs.World.{claim, push, pop, top_is, temp_reg, drop_slot}
 use Rattle.code_simulation.proofs.Moving.{source_goes, target_goes}

@@ -12,7 +12,7 @@ use Rattle.machine_meaning.specs.States as machine
 use Rattle.machine_meaning.specs.Moves as machine_moves
 use Rattle.machine_meaning.specs.Steps as machine_steps
 use Rattle.code_simulation.specs.Relation.{Setting}
-use Rattle.code_simulation.specs.Along.{Alike}
+use Rattle.code_simulation.proofs.Along.{Alike}
 
 -- so many tables count for so much
 pub count : {N : Type 0} (n : ℕ) (x : N) → total (λ (y : N). 1) (replicate n x) ≡ n

@@ -20,8 +20,8 @@ use Rattle.machine_meaning.specs.Effects as effects
 use Rattle.machine_meaning.specs.Steps as machine_steps
 use Rattle.code_simulation.specs.Slots.{Slot, Var, Temp}
 use Rattle.code_simulation.specs.Relation.{Dyn, cells_s, cells_m, Setting}
-use Rattle.code_simulation.specs.Along.{Alike, CallsGo, File, Here, inside, frame, env_of, waits_here, Reads, source_at, machine_at, Has, Same, SameIn}
-use Rattle.code_simulation.specs.Parts.{Forward}
+use Rattle.code_simulation.proofs.Along.{Alike, CallsGo, File, Here, inside, frame, env_of, waits_here, Reads, source_at, machine_at, Has, Same, SameIn}
+use Rattle.code_simulation.proofs.Parts.{Forward}
 use Rattle.code_simulation.proofs.Names.{put_other}
 use Rattle.code_simulation.proofs.World.{push, pop, temp_reg, drop_slot, holds_later}
 use Rattle.code_simulation.proofs.Changes.{source_more, declare}

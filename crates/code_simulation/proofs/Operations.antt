@@ -11,8 +11,8 @@ use Rattle.machine_meaning.specs.Moves as machine_moves
 use Rattle.machine_meaning.specs.Steps as machine_steps
 use Rattle.code_simulation.specs.Slots.{Slot, Steady}
 use Rattle.code_simulation.specs.Relation.{Dyn, store_s, store_m, Setting}
-use Rattle.code_simulation.specs.Along.{Alike, CallsGo, File, Here, inside, frame, env_of, Has, SameIn, WithValue, Receives}
-use Rattle.code_simulation.specs.Parts.{Forward}
+use Rattle.code_simulation.proofs.Along.{Alike, CallsGo, File, Here, inside, frame, env_of, Has, SameIn, WithValue, Receives}
+use Rattle.code_simulation.proofs.Parts.{Forward}
 use Rattle.code_simulation.proofs.Stores.{choose_keeps}
 use Rattle.code_simulation.proofs.Moving.{source_goes}
 use Rattle.code_simulation.proofs.Waiting.{settle_here}

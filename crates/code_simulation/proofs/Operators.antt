@@ -31,8 +31,8 @@ use Rattle.machine_meaning.specs.Instructions.{row}
 use Rattle.machine_meaning.specs.Steps as machine_steps
 use Rattle.code_simulation.specs.Slots.{Slot, Steady}
 use Rattle.code_simulation.specs.Relation.{Dyn, cells_m, store_s, store_m, Setting}
-use Rattle.code_simulation.specs.Along.{CallsGo, File, Here, inside, frame, env_of, Reads, source_at, machine_at, Has, Same, Receives}
-use Rattle.code_simulation.specs.Parts.{Forward, chosen, Sight, in_register, constant, over, ExprRuns, OperandRuns, Stays, Operates, AnswerRuns, WithAnswer}
+use Rattle.code_simulation.proofs.Along.{CallsGo, File, Here, inside, frame, env_of, Reads, source_at, machine_at, Has, Same, Receives}
+use Rattle.code_simulation.proofs.Parts.{Forward, chosen, Sight, in_register, constant, over, ExprRuns, OperandRuns, Stays, Operates, AnswerRuns, WithAnswer}
 use Rattle.code_simulation.proofs.Names.{steady_on}
 use Rattle.code_simulation.proofs.World.{pop}
 use Rattle.code_simulation.proofs.Moving.{source_goes, target_goes}

@@ -27,7 +27,7 @@ use Rattle.machine_meaning.specs.States as machine
 use Rattle.machine_meaning.specs.Calls as machine_calls
 use Rattle.machine_meaning.specs.Steps as machine_steps
 use Rattle.code_simulation.specs.Relation.{Dyn, store_s, store_m, Setting, Desc, Ok}
-use Rattle.code_simulation.specs.Along.{Alike, Stands, function, other, Outside, Invokes, Hands, Faults, Raises, CallsGo}
+use Rattle.code_simulation.proofs.Along.{Alike, Stands, function, other, Outside, Invokes, Hands, Faults, Raises, CallsGo}
 use Rattle.code_simulation.proofs.World.{keeps_all, ok_later}
 use Rattle.code_simulation.proofs.Moving.{source_goes, target_goes}
 use Rattle.code_simulation.proofs.Waiting.{stands_later, leaves, ok_leaves, innermost_s, innermost_m}

@@ -14,7 +14,7 @@ use Rattle.machine_meaning.specs.Instructions.{row}
 use Rattle.machine_meaning.specs.Steps as machine_steps
 use Rattle.code_simulation.specs.Slots.{Slot, Temp, temps, Tags, Fits, Clear, Steady}
 use Rattle.code_simulation.specs.Relation.{Dyn, Setting, Act, Desc, Holds}
-use Rattle.code_simulation.specs.Along.{Alike, Counts, File, Here, env_of, frame, Reads, source_at, machine_at, Has, WithValue}
+use Rattle.code_simulation.proofs.Along.{Alike, Counts, File, Here, env_of, frame, Reads, source_at, machine_at, Has, WithValue}
 use Rattle.code_simulation.proofs.Names.{length_temps, put_other, steady_below, steady_put, steady_on}
 use Rattle.code_simulation.proofs.World.{fits_temps, temp_reg, push, trim, trimmed_below}
 use Rattle.code_simulation.proofs.Moving.{target_goes}

@@ -12,8 +12,8 @@ use Rattle.source_meaning.specs.Steps as source_steps
 use Rattle.op_words.specs.declared.insn.Insn.TheVariants as insn
 use Rattle.code_simulation.specs.Slots.{Slot, Temp, temps}
 use Rattle.code_simulation.specs.Relation.{Dyn, Setting}
-use Rattle.code_simulation.specs.Along.{File, Here, inside, env_of, waits_here, Reads, source_at, Has, Same, SameIn}
-use Rattle.code_simulation.specs.Parts.{chosen, CondRuns}
+use Rattle.code_simulation.proofs.Along.{File, Here, inside, env_of, waits_here, Reads, source_at, Has, Same, SameIn}
+use Rattle.code_simulation.proofs.Parts.{chosen, CondRuns}
 use Rattle.code_simulation.proofs.Names.{binds_temps}
 use Rattle.code_simulation.proofs.World.{claim, holds_later}
 use Rattle.code_simulation.proofs.Moving.{source_goes}

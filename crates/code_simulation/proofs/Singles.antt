@@ -14,7 +14,7 @@ use Rattle.source_meaning.specs.Expressions as expressions
 use Rattle.op_words.specs.declared.insn.Insn.TheVariants as insn
 use Rattle.code_simulation.specs.Slots.{Var, local_at, vars}
 use Rattle.code_simulation.specs.Relation.{Setting}
-use Rattle.code_simulation.specs.Along.{CallsGo, Here, Reads}
+use Rattle.code_simulation.proofs.Along.{CallsGo, Here, Reads}
 use Rattle.code_simulation.proofs.Values.{number_constant, constant_same, loads_number, local_same}
 use Rattle.code_simulation.proofs.Lists.{IsSingle, single_all, list_last, exact_single}
 use Rattle.code_simulation.proofs.Blocks.{outside, BlockRuns, block_none, block_more}

@@ -17,8 +17,8 @@ use Rattle.machine_meaning.specs.States as machine
 use Rattle.machine_meaning.specs.Calls as machine_calls
 use Rattle.code_simulation.specs.Slots.{Slot, Temp, vars}
 use Rattle.code_simulation.specs.Relation.{Dyn, cells_s, changed, Setting}
-use Rattle.code_simulation.specs.Along.{Alike, CallsGo, File, Here, inside, frame, env_of, waits_here, Reads, machine_at, Has, Same}
-use Rattle.code_simulation.specs.Parts.{Forward, chosen, ExprRuns, CondRuns, ListRuns}
+use Rattle.code_simulation.proofs.Along.{Alike, CallsGo, File, Here, inside, frame, env_of, waits_here, Reads, machine_at, Has, Same}
+use Rattle.code_simulation.proofs.Parts.{Forward, chosen, ExprRuns, CondRuns, ListRuns}
 use Rattle.code_simulation.proofs.Names.{binds_vars}
 use Rattle.code_simulation.proofs.World.{pop_all}
 use Rattle.code_simulation.proofs.Changes.{declare_all}

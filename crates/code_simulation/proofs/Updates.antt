@@ -24,8 +24,8 @@ use Rattle.machine_meaning.specs.States as machine
 use Rattle.machine_meaning.specs.Moves as machine_moves
 use Rattle.code_simulation.specs.Slots.{Slot, Var, Temp, Local, local_at}
 use Rattle.code_simulation.specs.Relation.{at, Dyn, cells_s, cells_m, store_s, Setting}
-use Rattle.code_simulation.specs.Along.{Alike, CallsGo, File, Here, inside, env_of, Reads, source_at, machine_at, Has, Same}
-use Rattle.code_simulation.specs.Parts.{Sight, over, in_register, OperandRuns, Stays, Operates}
+use Rattle.code_simulation.proofs.Along.{Alike, CallsGo, File, Here, inside, env_of, Reads, source_at, machine_at, Has, Same}
+use Rattle.code_simulation.proofs.Parts.{Sight, over, in_register, OperandRuns, Stays, Operates}
 use Rattle.code_simulation.proofs.Names.{look_in, steady_all}
 use Rattle.code_simulation.proofs.World.{claim, pop, top_is, read, read_plain}
 use Rattle.code_simulation.proofs.Changes.{source_more, declare}

@@ -25,8 +25,8 @@ use Rattle.machine_meaning.specs.Effects as effects
 use Rattle.machine_meaning.specs.Steps as machine_steps
 use Rattle.code_simulation.specs.Slots.{Slot, Local, local_at}
 use Rattle.code_simulation.specs.Relation.{at, Dyn, cells_s, cells_m, store_s, store_m, Setting}
-use Rattle.code_simulation.specs.Along.{CallsGo, File, Here, inside, frame, env_of, Reads, source_at, machine_at, Has, Same, WithValue}
-use Rattle.code_simulation.specs.Parts.{ExprRuns, OperandRuns, in_register, constant, Stays}
+use Rattle.code_simulation.proofs.Along.{CallsGo, File, Here, inside, frame, env_of, Reads, source_at, machine_at, Has, Same, WithValue}
+use Rattle.code_simulation.proofs.Parts.{ExprRuns, OperandRuns, in_register, constant, Stays}
 use Rattle.code_simulation.proofs.Names.{look_in, look_out, steady_all, steady_at}
 use Rattle.code_simulation.proofs.World.{read, read_plain, read_up, top_is}
 use Rattle.code_simulation.proofs.Moving.{source_goes}

@@ -17,7 +17,7 @@ use Rattle.machine_meaning.specs.Calls as machine_calls
 use Rattle.machine_meaning.specs.Steps as machine_steps
 use Rattle.code_simulation.specs.Slots.{Slot, Steady}
 use Rattle.code_simulation.specs.Relation.{Dyn, store_s, store_m, stored, Setting, Desc, AllRest, Ok}
-use Rattle.code_simulation.specs.Along.{Alike, GivesOn, Stands, bottom, function, other, Invokes, Hands, Faults, Raises, CallsGo, File, Here, inside, frame, env_of, waits_here, source_at, Has, Receives}
+use Rattle.code_simulation.proofs.Along.{Alike, GivesOn, Stands, bottom, function, other, Invokes, Hands, Faults, Raises, CallsGo, File, Here, inside, frame, env_of, waits_here, source_at, Has, Receives}
 use Rattle.code_simulation.proofs.Names.{steady_below, steady_on}
 use Rattle.code_simulation.proofs.World.{keeps_all, go_down, come_back, trim, trimmed_own}
 use Rattle.code_simulation.proofs.Changes.{store_changed}

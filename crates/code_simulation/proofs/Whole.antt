@@ -25,7 +25,7 @@ use Rattle.machine_meaning.specs.Calls as machine_calls
 use Rattle.machine_meaning.specs.Runs.{loaded, MachineRun}
 use Rattle.code_simulation.specs.Slots.{Nobody, Of, Taken}
 use Rattle.code_simulation.specs.Relation.{Dyn, bodies_s, bodies_m, Setting, Code, FuncAlike, Base, Ok}
-use Rattle.code_simulation.specs.Along.{Alike, CallsGo, bottom}
+use Rattle.code_simulation.proofs.Along.{Alike, CallsGo, bottom}
 use Rattle.code_simulation.proofs.Names.{same_some, none_some}
 use Rattle.code_simulation.proofs.Entering.{FuncsGo, entered_s, entered_m}
 use Rattle.code_simulation.proofs.Outside.{Coroutines, calls_go}

@@ -15,7 +15,7 @@ use Rattle.machine_meaning.specs.Moves as machine_moves
 use Rattle.machine_meaning.specs.Steps as machine_steps
 use Rattle.code_simulation.specs.Slots.{Slot, Temp, temps, Steady}
 use Rattle.code_simulation.specs.Relation.{Dyn, Setting, store_m}
-use Rattle.code_simulation.specs.Along.{Alike, Counts, File, Here, inside, frame, env_of, machine_at, Has, Same, WithValue, WithAll}
+use Rattle.code_simulation.proofs.Along.{Alike, Counts, File, Here, inside, frame, env_of, machine_at, Has, Same, WithValue, WithAll}
 
 -- a jump that charges nothing leads on to a place
 pub record Forward (place : ℕ) (by : ℤ) (to : ℕ) : Type 0 where
