@@ -1,8 +1,8 @@
 -- Tables of nobody are made, filled and frozen.
-use Rattle.std.proofs.Common.{◌≡◌, ℕ, suc, ◌+◌, ◌<◌, List, [], ◌∷◌, ◌++◌, map, take, length, get_or, set, Result, Ok, Err, IfOk, OnOk, Some, slice_get, refl, sym, ◌∙◌, ap, subst, arith, add-one}
-use Rattle.std.proofs.lemmas.List.{set-set, get_or-set_same, map-append, length-map, append-nil}
+use Rattle.std.proofs.Common.{◌≡◌, ℕ, ◌+◌, ◌<◌, List, [], ◌∷◌, ◌++◌, map, take, length, get_or, set, Result, Ok, Err, IfOk, OnOk, Some, slice_get, refl, sym, ◌∙◌, ap, subst, arith, add-one}
+use Rattle.std.proofs.lemmas.List.{set-set, get_or-set_same, map-append}
 use Rattle.std.proofs.Math.Seq.{take-suc, get_or-append_seam, set-append_seam}
-use Rattle.std.proofs.lemmas.Option.{get_or_from_slice_get, slice_get_within}
+use Rattle.std.proofs.lemmas.Option.{get_or_from_slice_get}
 use Rattle.value_model.specs.Fresh.{fixed}
 use Rattle.value_model.specs.Parts.{meant, bytes_at}
 use Rattle.value_model.specs.Store.{TableOf, empty_table}
@@ -13,7 +13,6 @@ use Rattle.value_model.specs.declared.builtin.Builtin.{Builtin}
 use Rattle.value_model.specs.declared.ids.Owner.TheVariants as owner
 use Rattle.value_model.specs.declared.ids.TableId.{TableId}
 use Rattle.value_model.specs.declared.value.Value.{Value}
-use Rattle.value_model.specs.declared.value.Value.TheVariants as value
 use Rattle.value_arena.specs.Arenas.{ArenaView, HasTable, new_table, next_table}
 use Rattle.luau_tables.specs.Worlds.{Extends}
 use Rattle.luau_tables.proofs.MoreTexts.{meant_more}

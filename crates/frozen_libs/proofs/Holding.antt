@@ -1,5 +1,5 @@
 -- What an arena holds as tables are made, written and frozen, and as texts come.
-use Rattle.std.proofs.Common.{◌≡◌, ℕ, zero, suc, ◌<◌, ◌≤◌, true, false, List, [], ◌∷◌, ◌++◌, map, length, get_or, set, refl, sym, ◌∙◌, ap, subst, arith}
+use Rattle.std.proofs.Common.{◌≡◌, ℕ, ◌<◌, ◌≤◌, true, false, List, [], ◌∷◌, ◌++◌, map, length, get_or, set, refl, sym, ◌∙◌, ap, subst, arith}
 use Rattle.std.proofs.lemmas.List.{length-map, length-set, length-append, map-append, map-set}
 use lib.ListN.{get_or-map}
 use Rattle.byte_text.specs.Texts.{AreDistinct}

@@ -1,5 +1,5 @@
 -- Numbers of texts stay where others come.
-use Rattle.std.proofs.Common.{◌≡◌, List, Some, slice_get}
+use Rattle.std.proofs.Common.{List}
 use Rattle.luau_tables.specs.Worlds.{Extends}
 use Rattle.luau_tables.proofs.MoreTexts.{text_on}
 use Rattle.value_model.specs.Values.{Bytes}

@@ -1,15 +1,15 @@
 -- The tables of the library, filled step by step, are those of a script's start.
-use Rattle.std.proofs.Common.{◌≡◌, ℕ, true, List, [], ◌∷◌, ◌++◌, map, length, get_or, set, refl, sym, ◌∙◌, ap, subst, codes}
+use Rattle.std.proofs.Common.{◌≡◌, ℕ, true, List, [], ◌∷◌, map, length, get_or, set, refl, ◌∙◌, ap, codes}
 use Rattle.std.proofs.lemmas.List.{length-set}
 use Rattle.std.specs.List.{AllByRecursion}
-use Rattle.value_model.specs.Fresh.{Built, built, standard, standard_table, fixed, library_table, string_metatable, core_functions, math_functions, string_functions, table_functions, coroutine_functions, NoField, with_built_at}
+use Rattle.value_model.specs.Fresh.{built, standard, fixed, library_table, string_metatable, core_functions, math_functions, string_functions, table_functions, coroutine_functions, NoField}
 use Rattle.value_model.specs.Paths.{path_of, last_name}
 use Rattle.value_model.specs.Store.{TableOf, empty_table}
 use Rattle.value_model.specs.Tables.{put, same}
 use Rattle.value_model.specs.Values.{Bytes, TableRef, Shared, Text, Table}
 use Rattle.value_model.specs.declared.builtin.Builtin.{Builtin}
 use Rattle.frozen_libs.specs.Functions.{Named, with_functions}
-use Rattle.frozen_libs.specs.Standard.{opened, with_libraries, core_table}
+use Rattle.frozen_libs.specs.Standard.{with_libraries, core_table}
 
 abbrev pub named : List Builtin → Named
 named fs = map (λ f. (last_name (path_of f), f)) fs

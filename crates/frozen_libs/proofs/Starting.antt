@@ -1,5 +1,5 @@
 -- Where a script starts from: what nobody owns.
-use Rattle.std.proofs.Common.{◌≡◌, ℕ, zero, suc, ◌<◌, ◌≤◌, inr, true, List, [], ◌∷◌, map, length, get_or, Option, Some, None, IfSome, refl, sym, ◌∙◌, ap, subst, arith}
+use Rattle.std.proofs.Common.{◌≡◌, ℕ, zero, suc, ◌<◌, ◌≤◌, inr, true, List, [], ◌∷◌, map, length, get_or, Option, Some, None, IfSome, sym, ◌∙◌, ap, subst, arith}
 use Rattle.std.specs.List.{AllByRecursion}
 use Rattle.std.specs.Prelude.{option_map}
 use Rattle.value_model.specs.Fresh.{Built, store_with}
@@ -27,9 +27,9 @@ use Rattle.luau_tables.specs.Own.{AreTexts, HasText, HasTextsInTable, HasTexts, 
 use Rattle.luau_tables.specs.Part.{table_of, store_of, environment_of, coroutine_of, place_of_thread, IsScript, OfPairs, OfSome, OfTable}
 use Rattle.luau_tables.specs.declared.globals.Globals.{Globals}
 use Rattle.frozen_libs.specs.Frozen.{unowned, Starts}
-use Rattle.frozen_libs.specs.Made.{arena_of, tables_in, shared_id, IsShared, Holds, IsBuilt}
+use Rattle.frozen_libs.specs.Made.{arena_of, tables_in, IsShared, IsBuilt}
 use Rattle.frozen_libs.proofs.Holding.{held_length, held_table, table_there, there_table}
-use Rattle.frozen_libs.proofs.Shared.{table_texts, pairs_all}
+use Rattle.frozen_libs.proofs.Shared.{table_texts}
 
 -- ---- the objects of each owner
 

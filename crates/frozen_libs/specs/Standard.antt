@@ -1,6 +1,6 @@
 -- The tables of the library, as they are made.
 use Rattle.std.specs.Prelude.{◌≡◌, false, List, [], ◌∷◌, map, None}
-use Rattle.value_model.specs.Fresh.{library_table, library_entry, string_metatable, core_functions, math_functions, string_functions, table_functions, coroutine_functions}
+use Rattle.value_model.specs.Fresh.{library_table, library_entry, core_functions, math_functions, string_functions, table_functions, coroutine_functions}
 use Rattle.value_model.specs.Store.{TableOf, empty_table}
 use Rattle.frozen_libs.specs.Made.{shared_id}
 use Rattle.frozen_libs.specs.declared.standard.Libraries.{Libraries}

@@ -1,5 +1,5 @@
-use Rattle.std.proofs.Common.{◌≡◌, ap, subst, map, ◌++◌, ◌∷◌, [], length, set, get_or}
-use Rattle.value_model.specs.Store.{TableOf, empty_table}
+use Rattle.std.proofs.Common.{ap, subst, map, ◌++◌, ◌∷◌, [], set, get_or}
+use Rattle.value_model.specs.Store.{empty_table}
 use Rattle.frozen_libs.specs.Functions.{with_functions}
 use Rattle.frozen_libs.specs.Made.{Holds}
 use Rattle.frozen_libs.proofs.Filling.{filled}

@@ -1,9 +1,7 @@
-use Rattle.std.proofs.Common.{ap, subst, sym, [], map, take, get_or, set}
+use Rattle.std.proofs.Common.{subst, sym, []}
 use Rattle.value_model.specs.Parts.{meant}
-use Rattle.value_model.specs.Store.{empty_table}
 use Rattle.value_model.specs.declared.builtin.Builtin.TheVariants as builtin
 use Rattle.luau_tables.proofs.MoreTexts.{extends_on}
-use Rattle.frozen_libs.specs.Functions.{with_functions}
 use Rattle.frozen_libs.specs.Made.{Holds}
 use Rattle.frozen_libs.proofs.Filling.{next_function}
 use Rattle.frozen_libs.proofs.making.put_functions.Goals as goal

@@ -1,4 +1,4 @@
-use Rattle.std.proofs.Common.{◌≡◌, ap, subst, arith}
+use Rattle.std.proofs.Common.{ap, subst, arith}
 use Rattle.value_model.specs.Parts.{table_ref, meant}
 use Rattle.value_model.specs.declared.ids.TableId.{TableId}
 use Rattle.frozen_libs.specs.Made.{Holds}

@@ -1,5 +1,5 @@
 use Rattle.std.proofs.Common.{subst, ◌++◌, ◌∷◌, []}
-use Rattle.value_model.specs.Fresh.{library_table, math_functions, string_functions, table_functions, coroutine_functions}
+use Rattle.value_model.specs.Fresh.{library_table, math_functions, string_functions, table_functions}
 use Rattle.frozen_libs.specs.Made.{Holds}
 use Rattle.frozen_libs.specs.Standard.{opened}
 use Rattle.frozen_libs.proofs.StandardTables.{math_filled, string_filled, table_filled, coroutine_filled}

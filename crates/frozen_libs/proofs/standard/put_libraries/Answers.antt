@@ -1,4 +1,4 @@
-use Rattle.std.proofs.Common.{◌≡◌, ap, subst, arith, codes, length, [], ◌∷◌}
+use Rattle.std.proofs.Common.{ap, subst, arith, codes, length, [], ◌∷◌}
 use Rattle.value_model.specs.Fresh.{string_metatable}
 use Rattle.value_model.specs.Parts.{table_ref}
 use Rattle.value_model.specs.declared.ids.TableId.{TableId}

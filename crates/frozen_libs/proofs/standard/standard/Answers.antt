@@ -1,9 +1,9 @@
-use Rattle.std.proofs.Common.{◌≡◌, ap, subst, refl, arith, [], ◌∷◌}
+use Rattle.std.proofs.Common.{ap, subst, refl, arith, [], ◌∷◌}
 use Rattle.value_model.specs.Fresh.{standard, string_metatable}
 use Rattle.value_model.specs.Store.{empty_table}
 use Rattle.value_model.specs.declared.ids.TableId.{TableId}
-use Rattle.frozen_libs.specs.Made.{Holds, IsBuilt}
-use Rattle.frozen_libs.specs.Standard.{opened, with_libraries, core_table}
+use Rattle.frozen_libs.specs.Made.{Holds}
+use Rattle.frozen_libs.specs.Standard.{with_libraries}
 use Rattle.frozen_libs.proofs.Holding.{nothing_held, held_more, held_open}
 use Rattle.frozen_libs.proofs.Paths.{paths_more, no_hosts}
 use Rattle.frozen_libs.proofs.StandardTables.{core_filled}
