@@ -38,7 +38,8 @@ new_made a b (Err e) made id texts ts h = tt
 pub named_means : (texts : List Bytes) (x : ℕ) (name : Bytes) → slice_get texts x ≡ Some name → bytes_at texts x ≡ name
 named_means texts x name h = get_or_from_slice_get texts x name [] h
 
-pub named_put : (texts more : List Bytes) (a : ArenaView) (ts : List TableOf) (p x : ℕ) (name : Bytes) (v : Value) → Extends texts more → slice_get more x ≡ Some name →
+pub named_put : (texts more : List Bytes) (a : ArenaView) (ts : List TableOf) (p x : ℕ) (name : Bytes) (v : Value) → Extends texts more →
+    slice_get more x ≡ Some name →
     IsShared texts (length ts) v →
     Holds more a (set ts p (model.put (get_or ts p empty_table) (m.Text (bytes_at more x)) (meant more v))) →
     Holds more a (set ts p (model.put (get_or ts p empty_table) (m.Text name) (meant texts v)))
@@ -53,7 +54,8 @@ functions_behind t [] gs = refl
 functions_behind t (f ∷ fs) gs = functions_behind (model.put t (m.Text f.0) (m.Native f.1)) fs gs
 
 next_taken : {X : Type 0} (f : X → Bytes × Builtin) (xs : List X) (i : ℕ) (d : X) → i < length xs → (t : TableOf) →
-    with_functions t (map f (take (i + 1) xs)) ≡ model.put (with_functions t (map f (take i xs))) (m.Text (f (get_or xs i d)).0) (m.Native (f (get_or xs i d)).1)
+    with_functions t (map f (take (i + 1) xs)) ≡ model.put (with_functions t (map f (take i xs))) (m.Text (f (get_or xs i d)).0) (m.Native (f
+    (get_or xs i d)).1)
 next_taken f xs i d h t =
     ap (λ n. with_functions t (map f (take n xs))) (add-one i)
     ∙ ap (λ ys. with_functions t (map f ys)) (take-suc xs i d h)
@@ -86,7 +88,8 @@ pub filled : (ts : List TableOf) (p : ℕ) (f : TableOf → TableOf) → p ≡ l
     ≡ ts ++ fixed (f empty_table) ∷ []
 filled ts p f e =
     let first : set (ts ++ empty_table ∷ []) (length ts) (f (get_or (ts ++ empty_table ∷ []) (length ts) empty_table)) ≡ ts ++ f empty_table ∷ [] =
-    ap (λ x. set (ts ++ empty_table ∷ []) (length ts) (f x)) (get_or-append_seam ts empty_table [] empty_table) ∙ set-append_seam ts empty_table [] (f empty_table) in
+    ap (λ x. set (ts ++ empty_table ∷ []) (length ts) (f x)) (get_or-append_seam ts empty_table [] empty_table)
+    ∙ set-append_seam ts empty_table [] (f empty_table) in
     ap (λ p. set (set (ts ++ empty_table ∷ []) p (f (get_or (ts ++ empty_table ∷ []) p empty_table))) p
     (fixed (get_or (set (ts ++ empty_table ∷ []) p (f (get_or (ts ++ empty_table ∷ []) p empty_table))) p empty_table))) e
     ∙ ap (λ us. set us (length ts) (fixed (get_or us (length ts) empty_table))) first

@@ -37,7 +37,10 @@ id_made ts = refl
 
 arena_written : (ts : List TableView) (t : TableId) (v : TableView) → t.owner ≡ Frozen → with_table (arena_of ts) t v ≡ arena_of (set ts t.place v)
 unfolding with_table
-arena_written ts t v e = ap (λ s. with_objects (arena_of ts) (wide s) (record (objects_of (arena_of ts) (wide s)) { tables = set (objects_of (arena_of ts) (wide s)).tables t.place v })) e
+arena_written ts t v e = ap (λ s. with_objects (arena_of ts) (wide s) (record (objects_of (arena_of ts) (wide s)) {
+  tables = set (objects_of
+      (arena_of ts) (wide s)).tables t.place v;
+})) e
 
 table_read : (ts : List TableView) (t : TableId) → t.owner ≡ Frozen → table_at (arena_of ts) t ≡ get_or ts t.place no_table
 unfolding table_at
@@ -102,7 +105,8 @@ module _ (texts : List Bytes) (a : ArenaView) (ms : List TableOf) (h : Holds tex
 
     -- ---- a table is changed
 
-    held_written : (v : TableView) (x : TableOf) → OfTable (IsShared texts (length ms)) v → table_of texts v ≡ x → Holds texts (with_table a t v) (set ms t.place x)
+    held_written : (v : TableView) (x : TableOf) → OfTable (IsShared texts (length ms)) v → table_of texts v ≡ x →
+        Holds texts (with_table a t v) (set ms t.place x)
     held_written v x new e =
         make_holds texts (with_table a t v) (set (tables_in a) t.place v) (set ms t.place x)
         (ap (λ a. with_table a t v) h.arena ∙ arena_written (tables_in a) t v own)
@@ -117,7 +121,8 @@ module _ (texts : List Bytes) (a : ArenaView) (ms : List TableOf) (h : Holds tex
         held_written (rule.put (table_at a t) key v) (model.put (get_or ms t.place empty_table) (meant texts key) (meant texts v))
         (put_holds (IsShared texts (length ms)) (table_at a t) key v held_values k l)
         (sym (put_kept texts (owner.Script 0) d (table_at a t) key v
-        (table_on (IsShared texts (length ms)) (IsOfScript texts (owner.Script 0)) (shared_seen texts (length ms) (owner.Script 0)) (table_at a t) held_values)
+        (table_on (IsShared texts (length ms)) (IsOfScript texts (owner.Script 0)) (shared_seen texts (length ms) (owner.Script 0))
+        (table_at a t) held_values)
         (shared_seen texts (length ms) (owner.Script 0) key k))
         ∙ ap (λ x. model.put x (meant texts key) (meant texts v)) held_table)
 

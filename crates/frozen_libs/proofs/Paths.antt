@@ -28,7 +28,8 @@ map_all f g P same (x ∷ xs) h = ap (λ y. y ∷ map f xs) (same x h.0) ∙ ap 
 pub no_paths : (texts : List Bytes) (ps : List (TableId × StrId)) → ps ≡ [] → ArePaths texts ps []
 no_paths texts ps e = subst (λ ps. ArePaths texts ps []) (sym e) (record { meaning = refl; numbers = tt })
 
-pub paths_more : (texts more : List Bytes) (ps : List (TableId × StrId)) (qs : List (TableRef × Bytes)) → Extends texts more → ArePaths texts ps qs → ArePaths more ps qs
+pub paths_more : (texts more : List Bytes) (ps : List (TableId × StrId)) (qs : List (TableRef × Bytes)) → Extends texts more → ArePaths texts ps qs →
+    ArePaths more ps qs
 paths_more texts more ps qs e h =
     record {
       meaning = map_all (λ (p : TableId × StrId). (table_ref p.0, bytes_at more p.1.0)) (λ (p : TableId × StrId). (table_ref p.0, bytes_at texts p.1.0))

@@ -36,15 +36,18 @@ core_is = refl
 
 -- the functions of the global table
 pub core_filled : (p : ℕ) → p ≡ 0 →
-    set (with_libraries empty_table string_metatable) p (with_functions (get_or (with_libraries empty_table string_metatable) p empty_table) (named core_functions))
+    set (with_libraries empty_table string_metatable) p (with_functions (get_or (with_libraries empty_table string_metatable) p empty_table)
+    (named core_functions))
     ≡ with_libraries core_table string_metatable
 core_filled p e =
-    ap (λ p. set (with_libraries empty_table string_metatable) p (with_functions (get_or (with_libraries empty_table string_metatable) p empty_table) (named core_functions))) e
+    ap (λ p. set (with_libraries empty_table string_metatable) p (with_functions (get_or
+    (with_libraries empty_table string_metatable) p empty_table) (named core_functions))) e
     ∙ ap (λ t. with_libraries t string_metatable) core_is
 
 -- the metatable of strings
 abbrev pub indexed : ℕ → TableRef → List TableOf
-indexed p s = set (with_libraries empty_table empty_table) p (put (get_or (with_libraries empty_table empty_table) p empty_table) (Text (codes "__index")) (Table s))
+indexed p s = set (with_libraries empty_table empty_table) p (put (get_or (with_libraries empty_table empty_table) p empty_table) (Text
+    (codes "__index")) (Table s))
 
 index_is : fixed (put empty_table (Text (codes "__index")) (Table (Shared 3))) ≡ string_metatable
 unfolding put same
@@ -73,7 +76,8 @@ entered_is : all_entered 0 (Shared 2) (Shared 3) (Shared 4) (Shared 5) ≡ stand
 unfolding put same
 entered_is = refl
 
-pub libraries_entered : (p : ℕ) (m s t c : TableRef) → p ≡ 0 → m ≡ Shared 2 → s ≡ Shared 3 → t ≡ Shared 4 → c ≡ Shared 5 → all_entered p m s t c ≡ standard.tables
+pub libraries_entered : (p : ℕ) (m s t c : TableRef) → p ≡ 0 → m ≡ Shared 2 → s ≡ Shared 3 → t ≡ Shared 4 → c ≡ Shared 5 →
+    all_entered p m s t c ≡ standard.tables
 libraries_entered p m s t c ep em es et ec =
     ap (λ p. all_entered p m s t c) ep ∙ ap (λ m. all_entered 0 m s t c) em ∙ ap (λ s. all_entered 0 (Shared 2) s t c) es
     ∙ ap (λ t. all_entered 0 (Shared 2) (Shared 3) t c) et ∙ ap (λ c. all_entered 0 (Shared 2) (Shared 3) (Shared 4) c) ec ∙ entered_is

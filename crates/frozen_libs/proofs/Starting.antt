@@ -59,17 +59,20 @@ module _ (texts : List Bytes) (vs : List TableView) (h : (i : ℕ) → OfTable (
   may_hold (value.Native x) k = tt
   may_hold (value.Host x) k = tt
 
-  pairs_held : (es : Entries) → OfPairs (IsShared texts (length vs)) es → AllByRecursion (λ e. MayHold (arena_of vs) owner.Frozen e.0 × MayHold (arena_of vs) owner.Frozen e.1) es
+  pairs_held : (es : Entries) → OfPairs (IsShared texts (length vs)) es →
+      AllByRecursion (λ e. MayHold (arena_of vs) owner.Frozen e.0 × MayHold (arena_of vs) owner.Frozen e.1) es
   pairs_held [] k = tt
   pairs_held (e ∷ es) k = ((may_hold e.0 k.0, may_hold e.1 k.1), pairs_held es k.2)
 
-  meta_held : (r : Option TableId) → OfSome (λ t. IsShared texts (length vs) (value.Table t)) r → IfSome r (λ t. MayHold (arena_of vs) owner.Frozen (value.Table t))
+  meta_held : (r : Option TableId) → OfSome (λ t. IsShared texts (length vs) (value.Table t)) r →
+      IfSome r (λ t. MayHold (arena_of vs) owner.Frozen (value.Table t))
   meta_held None k = tt
   meta_held (Some t) k = may_hold (value.Table t) k
 
   may_be : (s : ShortOwner) (p : ℕ) → MayBeTable (arena_of vs) (wide s) (get_or (objects_of (arena_of vs) (wide s)).tables p no_table)
   may_be Frozen p = (pairs_held (get_or vs p no_table).entries (h p).entries, meta_held (get_or vs p no_table).meta (h p).meta)
-  may_be (Script n) p = subst (λ (o : ObjectsView). MayBeTable (arena_of vs) (owner.Script n) (get_or o.tables p no_table)) (sym (scripts_objects vs n)) (tt, tt)
+  may_be (Script n) p = subst (λ (o : ObjectsView). MayBeTable (arena_of vs) (owner.Script n) (get_or o.tables p no_table)) (sym
+      (scripts_objects vs n)) (tt, tt)
 
   owned : IsOwned (arena_of vs)
   unfolding table_at closure_at cell_at thread_at HasClosure
@@ -87,7 +90,8 @@ module _ (texts : List Bytes) (vs : List TableView) (h : (i : ℕ) → OfTable (
   unfolding table_at cell_at thread_at
   numbered =
       record {
-        tables = λ t. bare vs (λ o. HasTextsInTable texts (get_or o.tables t.place no_table)) (table_texts texts (length vs) (get_or vs t.place no_table) (h t.place)) tt
+        tables = λ t. bare vs (λ o. HasTextsInTable texts (get_or o.tables t.place no_table)) (table_texts texts (length vs)
+            (get_or vs t.place no_table) (h t.place)) tt
             (wide t.owner);
         cells = λ c. bare vs (λ o. HasText texts (get_or o.cells c.place value.Nil)) tt tt (wide c.owner);
         bodies = λ t. bare vs (λ o. HasText texts (get_or o.threads t.place no_coroutine).body) tt tt (wide t.owner);
@@ -101,7 +105,8 @@ all_at P [] i h l = absurd (omega (arith, l))
 all_at P (t ∷ ts) zero h l = h.0
 all_at P (t ∷ ts) (suc i) h l = all_at P ts i h.1 (omega (arith, l))
 
-module _ (texts : List Bytes) (g : Globals) (a : ArenaView) (b : Built) (h : IsBuilt texts a g b) (many : 2 ≤ length b.tables) (frozen : AllByRecursion (λ t. t.frozen ≡ true) b.tables) where
+module _ (texts : List Bytes) (g : Globals) (a : ArenaView) (b : Built) (h : IsBuilt texts a g b) (many : 2 ≤ length b.tables)
+    (frozen : AllByRecursion (λ t. t.frozen ≡ true) b.tables) where
   abbrev views : List TableView
   views = tables_in a
 
@@ -117,9 +122,16 @@ module _ (texts : List Bytes) (g : Globals) (a : ArenaView) (b : Built) (h : IsB
   globals : HasGlobals texts g a
   globals =
       record {
-        table = on_views (λ a. HasTable a g.table) (table_there views g.table (ap (λ (t : TableId). t.owner) h.table) (omega (arith, count, many, ap (λ (t : TableId). t.place) h.table)));
+        table = on_views (λ a. HasTable a g.table) (table_there views g.table (ap (λ (t : TableId). t.owner) h.table) (omega (
+          arith,
+          count,
+          many,
+          ap
+              (λ (t : TableId). t.place) h.table,
+        )));
         table_owner = ap (λ (t : TableId). t.owner) h.table;
-        string_meta = on_views (λ a. HasTable a g.string_meta) (table_there views g.string_meta (ap (λ (t : TableId). t.owner) h.string_meta) (omega (arith, count, many, ap (λ (t : TableId). t.place) h.string_meta)));
+        string_meta = on_views (λ a. HasTable a g.string_meta) (table_there views g.string_meta (ap (λ (t : TableId). t.owner) h.string_meta) (omega
+            (arith, count, many, ap (λ (t : TableId). t.place) h.string_meta)));
         string_meta_owner = ap (λ (t : TableId). t.owner) h.string_meta;
         names = h.names;
         paths = h.paths.numbers;

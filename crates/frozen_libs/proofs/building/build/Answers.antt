@@ -18,7 +18,8 @@ returns-clause-starts c fields e =
     let made = c.in_ok-globals.ensures.built in
     let texts = c.standard.new.names in
     let held : Holds texts c.freeze.new.arena (built NoField).tables =
-    subst (Holds texts c.freeze.new.arena) (frozen_is g.table.place (ap (λ (t : TableId). t.place) made.table)) (c.freeze.ensures texts standard.tables made.holds) in
+    subst (Holds texts c.freeze.new.arena) (frozen_is g.table.place (ap (λ (t : TableId). t.place) made.table))
+    (c.freeze.ensures texts standard.tables made.holds) in
     let all : IsBuilt texts c.freeze.new.arena g (built NoField) =
     record { holds = held; table = made.table; string_meta = made.string_meta; names = made.names; paths = made.paths; hosts = made.hosts } in
     subst (λ fields. Starts texts g c.freeze.new.arena (fresh fields)) (none_given (host_form c.args.names.now c.args._host.now).top fields c.requires.host e)

@@ -13,5 +13,6 @@ returns-clause-made c ts h =
       first.0,
       subst (λ us. Holds c.put_functions.new.names c.freeze.new.arena us)
           (filled ts c.in_ok-table.table.place (λ t. with_functions t (map (λ f. (f.0.now, f.1)) c.args.functions.now)) (ap (λ t. t.place) first.0))
-          (c.freeze.ensures c.put_functions.new.names (set (ts ++ empty_table ∷ []) c.in_ok-table.table.place (with_functions (get_or (ts ++ empty_table ∷ []) c.in_ok-table.table.place empty_table) (map (λ f. (f.0.now, f.1)) c.args.functions.now))) second),
+          (c.freeze.ensures c.put_functions.new.names (set (ts ++ empty_table ∷ []) c.in_ok-table.table.place (with_functions (get_or
+          (ts ++ empty_table ∷ []) c.in_ok-table.table.place empty_table) (map (λ f. (f.0.now, f.1)) c.args.functions.now))) second),
     )

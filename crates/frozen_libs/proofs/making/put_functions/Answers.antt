@@ -15,7 +15,8 @@ loop-function-preserved c =
       writable = now.writable;
       texts = now.texts;
       extends = extends_on c.args.names.now c.loop-function.names c.put_named.new.names before.extends now.extends;
-      made = λ ts h. next_function c.args.functions.now c.loop-function.function-index (record { ref_ptr = (0, 0); now = [] }, builtin.Print) (λ f. (f.0.now, f.1))
+      made = λ ts h. next_function c.args.functions.now c.loop-function.function-index (record { ref_ptr = (0, 0); now = [] }, builtin.Print) (λ f.
+          (f.0.now, f.1))
           c.loop-function-test.true c.args.names.now c.put_named.new.names c.args.arena.now c.put_named.new.arena ts c.args.t h c.requires.writable
           c.as_bytes.result.now c.as_bytes.ensures.value
           (λ us e. now.made us (subst (Holds c.loop-function.names c.loop-function.arena) (sym e) (before.made ts h)) tt);

@@ -12,5 +12,6 @@ invariant-loop-function l = record {
   texts : AreTexts l.names;
   extends : Extends l.fn.names l.names;
   made : (ts : List TableOf) → Holds l.fn.names l.fn.arena ts →
-      Holds l.names l.arena (set ts l.t.place (with_functions (get_or ts l.t.place empty_table) (map (λ f. (f.0.now, f.1)) (take l.function-index l.fn.functions))));
+      Holds l.names l.arena (set ts l.t.place (with_functions (get_or ts l.t.place empty_table) (map (λ f. (f.0.now, f.1))
+      (take l.function-index l.fn.functions))));
 }

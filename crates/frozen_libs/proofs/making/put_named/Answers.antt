@@ -14,4 +14,5 @@ returns-clause-made c ts h k =
     let extends = c.text_value.ensures.extends in
     named_put texts more c.put.new.arena ts c.args.t.place c.in_ok-id.id.0 c.args.name.now c.args.v extends c.in_ok-id.ensures.text k
     (c.in_ok-put.ensures.made more ts (c.text_value.ensures.texts c.requires.texts).distinct (held_more texts more c.args.arena.now ts extends h)
-    (slice_get_within more c.in_ok-id.id.0 c.args.name.now c.in_ok-id.ensures.text) (shared_more texts more (length ts) (length ts) extends (omega arith) c.args.v k))
+    (slice_get_within more c.in_ok-id.id.0 c.args.name.now c.in_ok-id.ensures.text) (shared_more texts more (length ts) (length ts) extends
+    (omega arith) c.args.v k))

@@ -13,7 +13,8 @@ returns-clause-names c =
     let e3 = c.number_four-3.ensures.extends in
     let e4 = c.number_four-4.ensures.extends in
     let e5 = c.number_four-5.ensures.extends in
-    let part_a = numbered_on n1 n5 _ _ _ _ c.in_ok-a.a (extends_on n1 n2 n5 e2 (extends_on n2 n3 n5 e3 (extends_on n3 n4 n5 e4 e5))) c.in_ok-a.ensures.numbers in
+    let part_a = numbered_on n1 n5 _ _ _ _ c.in_ok-a.a (extends_on n1 n2 n5 e2 (extends_on n2 n3 n5 e3
+    (extends_on n3 n4 n5 e4 e5))) c.in_ok-a.ensures.numbers in
     let part_b = numbered_on n2 n5 _ _ _ _ c.in_ok-b.b (extends_on n2 n3 n5 e3 (extends_on n3 n4 n5 e4 e5)) c.in_ok-b.ensures.numbers in
     let part_c = numbered_on n3 n5 _ _ _ _ c.in_ok-c.c (extends_on n3 n4 n5 e4 e5) c.in_ok-c.ensures.numbers in
     let part_d = numbered_on n4 n5 _ _ _ _ c.in_ok-d.d e5 c.in_ok-d.ensures.numbers in

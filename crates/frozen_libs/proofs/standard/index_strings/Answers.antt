@@ -11,7 +11,8 @@ use Rattle.frozen_libs.proofs.standard.index_strings.Goals as goal
 pub returns-clause-made : goal.returns-clause-made
 unfolding meant
 returns-clause-made c h e f =
-    let first = c.in_ok-put_named.ensures.made (with_libraries empty_table empty_table) h (table_is_shared c.args.names.now 6 c.args.string 3 f (omega arith)) in
+    let first = c.in_ok-put_named.ensures.made (with_libraries empty_table empty_table) h (table_is_shared c.args.names.now 6 c.args.string 3 f
+    (omega arith)) in
     subst (λ us. Holds c.put_named.new.names c.freeze.new.arena us)
     (index_filled c.args.string_meta.place (table_ref c.args.string) (ap (λ (t : TableId). t.place) e) (ap table_ref f))
     (c.freeze.ensures c.put_named.new.names (indexed c.args.string_meta.place (table_ref c.args.string)) first)

@@ -22,7 +22,11 @@ returns-clause-made c h l e =
     let vs = entered us p (codes "string") (table_ref libs.string) in
     let ws = entered vs p (codes "table") (table_ref libs.table) in
     let first = c.in_ok-put_table.ensures.made ts h (table_is_shared n0 6 libs.math 2 l.math (omega arith)) in
-    let second = c.in_ok-put_table-2.ensures.made us first (table_is_shared n1 (length us) libs.string 3 l.string (omega (arith, entered_length ts p (codes "math") (table_ref libs.math)))) in
+    let second = c.in_ok-put_table-2.ensures.made us first (table_is_shared n1 (length us) libs.string 3 l.string (omega (
+      arith,
+      entered_length ts p
+          (codes "math") (table_ref libs.math),
+    ))) in
     let third = c.in_ok-put_table-3.ensures.made vs second (table_is_shared n2 (length vs) libs.table 4 l.table
     (omega (arith, entered_length ts p (codes "math") (table_ref libs.math), entered_length us p (codes "string") (table_ref libs.string)))) in
     let fourth = c.in_ok-put_table-4.ensures.made ws third (table_is_shared n3 (length ws) libs.coroutine 5 l.coroutine

@@ -32,7 +32,8 @@ returns-clause-built c =
     let h4 = c.in_ok-index_strings.ensures.made h3.1 h2.0 h3.0.string in
     let h5 = c.in_ok-put_functions.ensures.made (with_libraries empty_table string_metatable) h4 in
     let h6 = c.in_ok-paths.ensures.made
-    (subst (Holds c.put_functions.new.names c.put_functions.new.arena) (core_filled c.in_ok-table.table.place (ap (λ (t : TableId). t.place) h1.0)) h5) h3.0 h1.0 in
+    (subst (Holds c.put_functions.new.names c.put_functions.new.arena) (core_filled c.in_ok-table.table.place (ap (λ
+    (t : TableId). t.place) h1.0)) h5) h3.0 h1.0 in
     let extends = c.meta_names.ensures.extends in
     record {
       holds = held_more c.put_libraries.new.names c.meta_names.new.names c.put_libraries.new.arena standard.tables extends h6;
