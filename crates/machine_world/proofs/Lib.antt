@@ -7,3 +7,4 @@ pub mod Upvalues
 pub mod Captured
 pub mod Calling
 pub mod Results
+pub mod Changing

@@ -18,6 +18,7 @@ use Rattle.machine_meaning.specs.States as machine
 use Rattle.machine_meaning.specs.States.{Purpose, Focus, Body, Inside, State, World, Taken, value_in, cell_up, with_cells, capture, closed, set_all, ended, filled}
 use Rattle.machine_meaning.specs.Moves.{inside, saved, store_of}
 use Rattle.machine_meaning.specs.Calls.{without_first}
+use Rattle.machine_meaning.specs.Effects.{list_from}
 use Rattle.machine_world.specs.Functions.{body_of, wait_of, functions_of, cells_of}
 use Rattle.machine_world.specs.declared.code.Code.{Code}
 use Rattle.machine_world.specs.declared.code.Function.{Function}
@@ -123,6 +124,10 @@ placed place i = record i { frame = record i.frame { place = place } }
 -- values into the registers from one on, up to the top
 abbrev pub delivered : ℕ → List m.Value → Inside → Inside
 delivered to vs i = let j = set_all to vs i in record j { frame = ended (to + length vs) j.frame }
+
+-- so many values less one from a register on, or all up to the top
+abbrev pub list_of : (count from : ℕ) → Inside → List m.Value
+list_of count from i = list_from count from i.frame i.world
 
 -- it waits for a call
 abbrev pub waits : Purpose → Inside → Inside

@@ -1,5 +1,5 @@
 -- What must hold of a script's stack beside its world.
-use Rattle.std.specs.Prelude.{◌≡◌, ℕ, ◌+◌, ◌<◌, ◌≤◌, IsSomeAnd, IfSome, true, List, [], ◌∷◌, length, None}
+use Rattle.std.specs.Prelude.{◌≡◌, ℕ, zero, suc, ◌+◌, ◌<◌, ◌≤◌, IsSomeAnd, IfSome, true, List, [], ◌∷◌, length, None}
 use Rattle.std.specs.List.{AllByRecursion}
 use Rattle.value_model.specs.Owners.{wide}
 use Rattle.value_model.specs.declared.ids.CellId.{CellId}
@@ -80,3 +80,16 @@ HasUpvalue a s u =
 pub record Up (w : LibWorld) (code : Code) (s : StackView) (u : ℕ) (c : CellId) : Type 0 where
   pub cell : IsCell w.owner w.arena c
   pub place : (x : Focus) (replies : List Reply) → c.place ≡ read_of 0 (upvalue_cell u) (part w code s x replies)
+
+-- a Luau function runs and has the register, or it is the one behind its last
+abbrev pub HasPlaceOf : StackView → ℕ → Type 0
+HasPlaceOf s r = IsSomeAnd (innermost s) (λ f. IsLuau f × (r ≤ f.registers))
+
+-- so many values less one from a register on are among its own, or the list of values begins no later
+abbrev pub ReachesTo : (count : ℕ) → (from registers base top : ℕ) → Type 0
+ReachesTo zero from n base top = base + from ≤ top
+ReachesTo (suc k) from n base top = from + k ≤ n
+
+abbrev pub HasList : StackView → (count from : ℕ) → Type 0
+HasList s count from =
+    IsSomeAnd (innermost s) (λ f. IsLuau f × ReachesTo count from f.registers f.base s.top)

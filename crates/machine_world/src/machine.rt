@@ -8,11 +8,12 @@ ghost use Rattle.value_model.specs.Values as m;
 ghost use Rattle.value_model.specs.declared.event.Reply.{Reply};
 ghost use Rattle.luau_tables.specs.Worlds.{MayUseIn};
 ghost use Rattle.machine_meaning.specs.States as machine;
+ghost use Rattle.machine_world.specs.Functions.{purpose_of};
 ghost use Rattle.machine_world.specs.Parts as parts;
 ghost use Rattle.machine_world.specs.Sound.{IsMachine, HasRegister, HasUpvalue, IsCell, Up, Runs};
 
 use crate::code::Code;
-use call_frames::{Frame, Stack};
+use call_frames::{Frame, ReturnKind, Stack};
 use luau_tables::LibWorld;
 use resource::OutOfMemory;
 use value_model::{CellId, ClosureId, Value};
@@ -113,6 +114,30 @@ impl Machine {
     {
         let place = self.stack.place(register);
         self.stack.close_from(&mut world.arena, place);
+    }
+
+    /// The function that runs goes on at a place.
+    pub fn go(&mut self, world: &LibWorld, place: usize)
+        requires sound { IsMachine world.now self.old.stack }
+        requires runs { Runs self.old.stack }
+        ensures placed { parts.Becomes (parts.changed (parts.placed place)) world.now self.old.code self.old.stack world.now self.new.stack }
+        ensures sound { IsMachine world.now self.new.stack }
+        ensures code { self.new.code ≡ self.old.code }
+    {
+        self.stack.set_place(place);
+    }
+
+    /// The function that runs waits for a call, and then does this with its values.
+    pub fn wait(&mut self, world: &LibWorld, kind: ReturnKind)
+        requires sound { IsMachine world.now self.old.stack }
+        requires runs { Runs self.old.stack }
+        ensures waits { parts.Becomes (parts.changed (parts.waits (purpose_of world.now.names kind))) world.now self.old.code self.old.stack world.now self.new.stack }
+        ensures top { self.new.stack.top ≡ 0 }
+        ensures sound { IsMachine world.now self.new.stack }
+        ensures code { self.new.code ≡ self.old.code }
+    {
+        self.stack.set_kind(kind);
+        self.stack.set_top(0);
     }
 
     /// Leaves the function that runs.
