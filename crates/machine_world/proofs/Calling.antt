@@ -128,7 +128,7 @@ own_front [] f q lt (later is) = elim is [ ]
 own_front (g ∷ gs) f q lt (first le high) = first le high
 own_front (g ∷ gs) f q lt (later is) = later (own_front gs f q lt is)
 
-all_take : {A : Type 0} (P : A → Type 0) (n : ℕ) (xs : List A) → AllByRecursion P xs → AllByRecursion P (take n xs)
+pub all_take : {A : Type 0} (P : A → Type 0) (n : ℕ) (xs : List A) → AllByRecursion P xs → AllByRecursion P (take n xs)
 all_take P zero xs h = tt
 all_take P (suc n) [] h = tt
 all_take P (suc n) (x ∷ xs) h = (h.0, all_take P n xs h.1)
@@ -213,7 +213,7 @@ body_is (c ∷ cs) zero = refl
 body_is (c ∷ cs) (suc i) = body_is cs i
 
 -- given values, and then nil
-given_get : (given : List Value) (n q : ℕ) → get_or (given ++ replicate n value.Nil) q value.Nil ≡ get_or given q value.Nil
+pub given_get : (given : List Value) (n q : ℕ) → get_or (given ++ replicate n value.Nil) q value.Nil ≡ get_or given q value.Nil
 given_get [] zero q = refl
 given_get [] (suc n) zero = refl
 given_get [] (suc n) (suc q) = given_get [] n q
@@ -288,11 +288,11 @@ part_called w code s c n given extra x replies none le high layout is =
 
 -- ---- what goes on to hold
 
-all_append : {A : Type 0} (P : A → Type 0) (xs ys : List A) → AllByRecursion P xs → AllByRecursion P ys → AllByRecursion P (xs ++ ys)
+pub all_append : {A : Type 0} (P : A → Type 0) (xs ys : List A) → AllByRecursion P xs → AllByRecursion P ys → AllByRecursion P (xs ++ ys)
 all_append P [] ys h k = k
 all_append P (x ∷ xs) ys h k = (h.0, all_append P xs ys h.1 k)
 
-all_replicate : {A : Type 0} (P : A → Type 0) (n : ℕ) (x : A) → P x → AllByRecursion P (replicate n x)
+pub all_replicate : {A : Type 0} (P : A → Type 0) (n : ℕ) (x : A) → P x → AllByRecursion P (replicate n x)
 all_replicate P zero x h = tt
 all_replicate P (suc n) x h = (h, all_replicate P n x h)
 

@@ -8,3 +8,4 @@ pub mod Captured
 pub mod Calling
 pub mod Results
 pub mod Changing
+pub mod Delivering

@@ -10,7 +10,7 @@ ghost use Rattle.luau_tables.specs.Worlds.{MayUseIn};
 ghost use Rattle.machine_meaning.specs.States as machine;
 ghost use Rattle.machine_world.specs.Functions.{purpose_of};
 ghost use Rattle.machine_world.specs.Parts as parts;
-ghost use Rattle.machine_world.specs.Sound.{IsMachine, HasRegister, HasUpvalue, IsCell, Up, Runs};
+ghost use Rattle.machine_world.specs.Sound.{IsMachine, HasRegister, HasUpvalue, HasPlaceOf, IsCell, Up, Runs};
 
 use crate::code::Code;
 use call_frames::{Frame, ReturnKind, Stack};
@@ -138,6 +138,19 @@ impl Machine {
     {
         self.stack.set_kind(kind);
         self.stack.set_top(0);
+    }
+
+    /// Values into the registers of the function that runs, from one on. Its list of values ends behind them.
+    pub fn deliver(&mut self, world: &LibWorld, to: u8, vs: &[Value]) -> Result<(), OutOfMemory>
+        requires sound { IsMachine world.now self.old.stack }
+        requires has { HasPlaceOf self.old.stack to }
+        requires usable { AllByRecursion (MayUseIn world.now) vs.now }
+        ensures delivered { OnOk result (parts.Becomes (parts.changed (parts.delivered to (map (meant world.now.names) vs.now))) world.now self.old.code self.old.stack world.now self.new.stack) }
+        ensures sound { OnOk result (IsMachine world.now self.new.stack) }
+        ensures code { self.new.code ≡ self.old.code }
+    {
+        self.stack.lies();
+        self.stack.deliver(to, vs)
     }
 
     /// Leaves the function that runs.
