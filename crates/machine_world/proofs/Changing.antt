@@ -1,5 +1,5 @@
 -- The innermost frame goes on at another place, or waits.
-use Rattle.std.proofs.Common.{◌≡◌, ℕ, zero, suc, ◌+◌, ◌-◌, ◌<◌, ◌≤◌, max, Bool, true, false, cond, nat_lt, List, [], ◌∷◌, ◌++◌, map, reverse, replicate, length, take, set, Option, Some, None, slice_get, refl, sym, ◌∙◌, ap, subst, rules, arith, lt-ltb, le-ltb}
+use Rattle.std.proofs.Common.{◌≡◌, ℕ, zero, suc, ◌+◌, ◌-◌, ◌<◌, ◌≤◌, max, Bool, true, false, cond, nat_lt, List, [], ◌∷◌, ◌++◌, map, reverse, replicate, length, take, set, Option, Some, None, slice_get, IsSomeAnd, refl, sym, ◌∙◌, ap, subst, rules, arith, lt-ltb, le-ltb}
 use Rattle.std.specs.List.{AllByRecursion}
 use Rattle.std.specs.Option.{option_map_or}
 use Rattle.std.proofs.lemmas.Bool.{ltb-true, ltb-false}
@@ -13,6 +13,7 @@ use Rattle.luau_tables.specs.declared.globals.LibWorld.{LibWorld}
 use Rattle.call_frames.specs.declared.frame.Frame.{Frame}
 use Rattle.call_frames.specs.declared.frame.OpenCell.{OpenCell}
 use Rattle.call_frames.specs.declared.frame.ReturnKind.{ReturnKind}
+use Rattle.call_frames.specs.declared.frame.ReturnKind.TheVariants.{Idle}
 use Rattle.call_frames.specs.Stacks.{StackView, Layout}
 use Rattle.call_frames.specs.Cells.{innermost, outer, with_innermost}
 use Rattle.call_frames.specs.Cells as opens
@@ -23,8 +24,8 @@ use Rattle.machine_meaning.specs.States.{Register, Val, Registers, Focus, State}
 use Rattle.machine_world.specs.declared.code.Code.{Code}
 use Rattle.machine_world.specs.Functions.{register, window, function_of, waiting, running, functions_of, cells_of, wait_of, wait_in, purpose_of}
 use Rattle.machine_world.specs.Parts.{world_with, state_with, part, waits_in, changed_in, changed, placed, waits}
-use Rattle.machine_world.specs.Sound.{IsOwnOf, first, later, AreOwn, IsFunctionOf, Runs, IsMachine}
-use Rattle.machine_world.proofs.Frames.{Inner, inner, functions_split}
+use Rattle.machine_world.specs.Sound.{IsOwnOf, first, later, AreOwn, IsFunctionOf, IsLuau, Runs, GoesOn, IsMachine}
+use Rattle.machine_world.proofs.Frames.{Inner, inner, of_frame, functions_split}
 use Rattle.machine_world.proofs.Written.{after, all_set}
 use Rattle.machine_world.proofs.Calling.{reverse_last}
 
@@ -143,3 +144,15 @@ some_frame s runs = let i = inner s runs in by s.frames i.is
     by : {f : Frame} (fs : List Frame) → slice_get fs (length fs - 1) ≡ Some f → 0 < length fs
     by [] e = absurd (cc)
     by (g ∷ fs) e = omega arith
+
+-- it still waits for no call
+pub goes_placed : (s : StackView) (place : ℕ) → Runs s → GoesOn s → GoesOn (opens.placed place s)
+goes_placed s place runs h =
+    let i = inner s runs in
+    let f = i.frame in
+    let g : Frame = record f { place = place } in
+    let s' : StackView = framed s f place f.kind s.top in
+    let here : IsLuau f × (f.kind ≡ Idle) = of_frame s (λ f. IsLuau f × (f.kind ≡ Idle)) f i.is h in
+    let now : innermost s' ≡ Some g = last_got s'.frames (outer s) g (replaced s.frames f g i.is) in
+    subst GoesOn (with_innermost_is (λ f. record f { place = place }) s f i.is)
+    (subst (λ q. IsSomeAnd q (λ f. IsLuau f × (f.kind ≡ Idle))) (sym now) here)

@@ -9,3 +9,4 @@ pub mod Calling
 pub mod Results
 pub mod Changing
 pub mod Delivering
+pub mod Going

@@ -207,3 +207,15 @@ are_in w a (o ∷ os) h = (subst (λ u. o.cell.place < length (objects_of a u).c
 pub is_there : (w : Owner) (a : ArenaView) (c : CellId) → IsCell w a c → HasCell a c
 unfolding HasCell
 is_there w a c h = subst (λ u. c.place < length (objects_of a u).cells) (sym h.0) h.1
+
+-- no frame changes
+abbrev pub both_frames : Both → List Frame
+both_frames b = b.0.frames
+
+pub up_frames : (s : StackView) (a : ArenaView) (c : CellId) (v : Value) (b : Both) → opens.write_up s a c v ≡ b → both_frames b ≡ s.frames
+unfolding opens.write_up
+up_frames s a c v b e = subst (λ (b : Both). both_frames b ≡ s.frames) e (by (register_of c s.cells))
+  where
+    by : (q : Option ℕ) → both_frames (option_map_or (λ r. (record s { registers = set s.registers r v }, a)) q (s, with_cell a c v)) ≡ s.frames
+    by None = refl
+    by (Some r) = refl

@@ -12,6 +12,7 @@ use Rattle.luau_tables.specs.Worlds.{IsWorld, MayUseIn}
 use Rattle.luau_tables.specs.declared.globals.LibWorld.{LibWorld}
 use Rattle.call_frames.specs.declared.frame.Frame.{Frame}
 use Rattle.call_frames.specs.declared.frame.OpenCell.{OpenCell}
+use Rattle.call_frames.specs.declared.frame.ReturnKind.TheVariants.{Idle}
 use Rattle.call_frames.specs.Stacks.{StackView}
 use Rattle.call_frames.specs.Cells.{innermost}
 use Rattle.value_model.specs.declared.event.Reply.{Reply}
@@ -93,3 +94,7 @@ ReachesTo (suc k) from n base top = from + k ≤ n
 abbrev pub HasList : StackView → (count from : ℕ) → Type 0
 HasList s count from =
     IsSomeAnd (innermost s) (λ f. IsLuau f × ReachesTo count from f.registers f.base s.top)
+
+-- a Luau function runs, and waits for no call
+abbrev pub GoesOn : StackView → Type 0
+GoesOn s = IsSomeAnd (innermost s) (λ f. IsLuau f × (f.kind ≡ Idle))

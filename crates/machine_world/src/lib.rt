@@ -3,6 +3,7 @@
 
 mod code;
 mod machine;
+mod rows;
 
 pub use code::{Code, Function, Line};
 pub use machine::Machine;

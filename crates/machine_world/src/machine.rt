@@ -10,7 +10,7 @@ ghost use Rattle.luau_tables.specs.Worlds.{MayUseIn};
 ghost use Rattle.machine_meaning.specs.States as machine;
 ghost use Rattle.machine_world.specs.Functions.{purpose_of};
 ghost use Rattle.machine_world.specs.Parts as parts;
-ghost use Rattle.machine_world.specs.Sound.{IsMachine, HasRegister, HasUpvalue, HasPlaceOf, IsCell, Up, Runs};
+ghost use Rattle.machine_world.specs.Sound.{IsMachine, HasRegister, HasUpvalue, HasPlaceOf, IsCell, Up, Runs, GoesOn};
 
 use crate::code::Code;
 use call_frames::{Frame, ReturnKind, Stack};
@@ -43,6 +43,7 @@ impl Machine {
         requires usable { MayUseIn world.now v }
         ensures written { parts.Becomes (parts.changed (machine.set register (meant world.now.names v))) world.now self.old.code self.old.stack world.now self.new.stack }
         ensures sound { IsMachine world.now self.new.stack }
+        ensures frames { self.new.stack.frames ≡ self.old.stack.frames }
         ensures code { self.new.code ≡ self.old.code }
     {
         self.stack.set_local(register, v);
@@ -83,6 +84,7 @@ impl Machine {
         requires usable { MayUseIn world.old v }
         ensures written { parts.Becomes (parts.changed (parts.set_upvalue upvalue (meant world.old.names v))) world.old self.old.code self.old.stack world.new self.new.stack }
         ensures sound { IsMachine world.new self.new.stack }
+        ensures frames { self.new.stack.frames ≡ self.old.stack.frames }
         ensures code { self.new.code ≡ self.old.code }
     {
         self.stack.lies();
@@ -110,6 +112,7 @@ impl Machine {
         requires has { HasRegister self.old.stack register }
         ensures closed { parts.Becomes (parts.changed (parts.close register)) world.old self.old.code self.old.stack world.new self.new.stack }
         ensures sound { IsMachine world.new self.new.stack }
+        ensures frames { self.new.stack.frames ≡ self.old.stack.frames }
         ensures code { self.new.code ≡ self.old.code }
     {
         let place = self.stack.place(register);
@@ -122,6 +125,7 @@ impl Machine {
         requires runs { Runs self.old.stack }
         ensures placed { parts.Becomes (parts.changed (parts.placed place)) world.now self.old.code self.old.stack world.now self.new.stack }
         ensures sound { IsMachine world.now self.new.stack }
+        ensures frames { GoesOn self.old.stack → GoesOn self.new.stack }
         ensures code { self.new.code ≡ self.old.code }
     {
         self.stack.set_place(place);
@@ -147,6 +151,7 @@ impl Machine {
         requires usable { AllByRecursion (MayUseIn world.now) vs.now }
         ensures delivered { OnOk result (parts.Becomes (parts.changed (parts.delivered to (map (meant world.now.names) vs.now))) world.now self.old.code self.old.stack world.now self.new.stack) }
         ensures sound { OnOk result (IsMachine world.now self.new.stack) }
+        ensures frames { OnOk result (self.new.stack.frames ≡ self.old.stack.frames) }
         ensures code { self.new.code ≡ self.old.code }
     {
         self.stack.lies();

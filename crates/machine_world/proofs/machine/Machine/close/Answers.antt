@@ -30,3 +30,6 @@ returns-clause-sound c =
     subst (λ (t : StackView). IsMachine (record w { arena = c.close_from.new.arena }) t) (sym c.close_from.ensures.stack)
     (subst (λ (a : ArenaView). IsMachine (record w { arena = a }) (record s { cells = kept p s.cells })) (sym c.close_from.ensures.arena)
     (keeps_close w s p c.requires.sound))
+
+pub returns-clause-frames : goal.returns-clause-frames
+returns-clause-frames c = ap (λ (s : StackView). s.frames) c.close_from.ensures.stack

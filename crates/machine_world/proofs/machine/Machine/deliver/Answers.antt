@@ -26,3 +26,9 @@ returns-clause-sound c =
     let vs = c.args.vs.now in
     on_ok (c.deliver.new.self ≡ delivered c.args.to vs m.stack) (IsMachine w c.deliver.new.self) c.deliver.result
     (λ e. subst (IsMachine w) (sym e) (keeps_delivered w m.stack c.args.to vs c.requires.usable c.requires.sound)) c.deliver.ensures
+
+pub returns-clause-frames : goal.returns-clause-frames
+unfolding delivered
+returns-clause-frames c =
+    on_ok (c.deliver.new.self ≡ delivered c.args.to c.args.vs.now c.args.self.now.stack) (c.deliver.new.self.frames ≡ c.args.self.now.stack.frames) c.deliver.result
+    (λ e. ap (λ (t : StackView). t.frames) e) c.deliver.ensures

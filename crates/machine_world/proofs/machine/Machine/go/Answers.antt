@@ -1,3 +1,5 @@
+use Rattle.machine_world.specs.Sound.{GoesOn}
+use Rattle.machine_world.proofs.Changing.{goes_placed}
 use Rattle.std.proofs.Common.{◌≡◌, ◌∙◌, sym, ap, subst}
 use Rattle.call_frames.specs.Stacks.{StackView}
 use Rattle.machine_world.specs.Parts.{part}
@@ -18,3 +20,6 @@ returns-clause-placed c = λ x replies.
 pub returns-clause-sound : goal.returns-clause-sound
 returns-clause-sound c =
     subst (IsMachine c.args.world.now) (sym c.set_place.ensures) (keeps_placed c.args.world.now c.args.self.now.stack c.args.place c.requires.runs c.requires.sound)
+
+pub returns-clause-frames : goal.returns-clause-frames
+returns-clause-frames c = λ h. subst GoesOn (sym c.set_place.ensures) (goes_placed c.args.self.now.stack c.args.place c.requires.runs h)

@@ -1,5 +1,6 @@
 use Rattle.std.proofs.Common.{sym, ◌∙◌, ap, subst}
 use Rattle.call_frames.specs.Stacks.{StackView}
+use Rattle.call_frames.specs.Cells.{with_local}
 use Rattle.machine_world.specs.Parts.{part}
 use Rattle.machine_world.specs.Sound.{IsMachine}
 use Rattle.machine_world.proofs.Written.{part_write, keeps_write}
@@ -16,3 +17,7 @@ pub returns-clause-sound : goal.returns-clause-sound
 returns-clause-sound c =
     subst (IsMachine c.args.world.now) (sym c.set_local.ensures.written)
     (keeps_write c.args.world.now c.args.self.now.stack c.args.register c.args.v c.requires.usable c.requires.sound)
+
+pub returns-clause-frames : goal.returns-clause-frames
+unfolding with_local
+returns-clause-frames c = ap (λ (s : StackView). s.frames) c.set_local.ensures.written

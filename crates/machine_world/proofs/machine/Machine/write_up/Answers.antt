@@ -1,3 +1,4 @@
+use Rattle.machine_world.proofs.Upvalues.{up_frames}
 use Rattle.machine_world.proofs.Upvalues.{part_write_up, keeps_write_up, is_there, runs_up}
 use Rattle.machine_world.proofs.machine.Machine.write_up.Goals as goal
 
@@ -14,3 +15,6 @@ pub returns-clause-sound : goal.returns-clause-sound
 returns-clause-sound c =
     let w = c.args.world.now in
     keeps_write_up w c.args.self.now.stack c.upvalue_cell-cell.result c.args.v (c.write_up.new.self, c.write_up.new.arena) c.write_up.ensures.written c.requires.sound c.upvalue_cell-cell.ensures.cell c.requires.usable
+
+pub returns-clause-frames : goal.returns-clause-frames
+returns-clause-frames c = up_frames c.args.self.now.stack c.args.world.now.arena c.upvalue_cell-cell.result c.args.v (c.write_up.new.self, c.write_up.new.arena) c.write_up.ensures.written

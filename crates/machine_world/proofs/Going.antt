@@ -1,0 +1,99 @@
+-- Rows that call nothing.
+use Rattle.std.proofs.Common.{◌≡◌, ℕ, List, [], ◌∷◌, reverse, Option, Some, None, IsSomeAnd, refl, sym, ◌∙◌, ap, subst}
+use Rattle.value_model.specs.Values as m
+use Rattle.value_model.specs.declared.event.Reply.{Reply}
+use Rattle.value_model.specs.declared.ids.ClosureId.{ClosureId}
+use Rattle.value_arena.specs.declared.closure.Closure.{Closure}
+use Rattle.value_arena.specs.Arenas.{objects_of}
+use Rattle.bounded_runs.specs.Runs.{Goes}
+use Rattle.luau_tables.specs.declared.globals.LibWorld.{LibWorld}
+use Rattle.call_frames.specs.declared.frame.Frame.{Frame}
+use Rattle.call_frames.specs.declared.frame.ReturnKind.{ReturnKind}
+use Rattle.call_frames.specs.declared.frame.ReturnKind.TheVariants.{Idle}
+use Rattle.call_frames.specs.Stacks.{StackView}
+use Rattle.call_frames.specs.Cells.{innermost, outer}
+use Rattle.machine_meaning.specs.States as machine
+use Rattle.machine_meaning.specs.States.{Register, Val, Open, Run, Focus, Inside, State, write}
+use Rattle.machine_meaning.specs.Moves.{Row, Step, inside, on, go, give}
+use Rattle.machine_world.specs.declared.code.Code.{Code}
+use Rattle.machine_world.specs.Functions.{waiting, running, functions_of, cells_of, purpose_of}
+use Rattle.machine_world.specs.Parts.{world_with, part, changed, changed_in, placed, Becomes, read_in, read_of}
+use Rattle.machine_world.specs.Rows.{row_in, Makes}
+use Rattle.machine_world.specs.Sound.{IsLuau, Runs, GoesOn}
+use Rattle.machine_world.proofs.Frames.{Inner, inner, of_frame, functions_split}
+
+goes_some : (q : Option Frame) → IsSomeAnd q (λ f. IsLuau f × (f.kind ≡ Idle)) → IsSomeAnd q IsLuau
+goes_some None h = h
+goes_some (Some f) h = h.0
+
+pub runs_on : (s : StackView) → GoesOn s → Runs s
+runs_on s h = goes_some (innermost s) h
+
+-- what is looked at is the frames alone
+pub goes_same : (s s' : StackView) → s'.frames ≡ s.frames → GoesOn s → GoesOn s'
+goes_same s s' e h = subst (λ (fs : List Frame). GoesOn (record s' { frames = fs })) (sym e) h
+
+-- the code goes on behind a change that leaves what the function waits for
+pub row_goes : (w w' : LibWorld) (code : Code) (s s1 s2 : StackView) (row : Row) (g : Inside → Inside) (next : ℕ) → ((f : machine.Frame) (fs : List machine.Frame) (v : machine.World) → row f fs v ≡ on (go next) (g (inside f v)) fs) → ((i : Inside) → (g i).frame.purpose ≡ i.frame.purpose) → Becomes (changed g) w code s w' s1 → Becomes (changed (placed next)) w' code s1 w' s2 → GoesOn s → Makes row w code s w' s2
+unfolding part
+row_goes w w' code s s1 s2 row g next is keeps one two on_it = λ replies.
+    let i = inner s (runs_on s on_it) in
+    let f = i.frame in
+    let cs : List Closure = (objects_of w.arena w.owner).closures in
+    let run : machine.Frame = running w.names cs s i.closure f in
+    let others : List machine.Frame = waiting w.names cs s.registers s.cells (reverse (outer s)) in
+    let world : machine.World = world_with w code s.frames replies (cells_of w.names w.owner s w.arena) in
+    let split = functions_split w.names cs s f i.closure i.is i.of in
+    let idle : f.kind ≡ Idle = (of_frame s (λ f. IsLuau f × (f.kind ≡ Idle)) f i.is on_it).1 in
+    let j : Inside = g (inside run world) in
+    let none : j.frame.purpose ≡ machine.Idle = keeps (inside run world) ∙ ap (λ k. purpose_of w.names k) idle in
+    ap (λ fs. row_in row fs world) split
+    ∙ is run others world
+    ∙ ap (λ p. Goes [] (record { focus = Run; functions = record j.frame { place = next; purpose = p } ∷ others; world = j.world })) (sym none)
+    ∙ sym (ap (λ t. Goes [] t) (two Run replies ∙ ap (changed (placed next)) (one Run replies)
+    ∙ ap (λ fs. changed (placed next) (changed_in g Run fs world)) split))
+
+pub set_keeps : (r : ℕ) (v : m.Value) (i : Inside) → (machine.set r v i).frame.purpose ≡ i.frame.purpose
+set_keeps r v i = by (i.frame.registers r)
+  where
+    by : (reg : Register) → (write reg r v i).frame.purpose ≡ i.frame.purpose
+    by (Val u) = refl
+    by (Open c) = refl
+
+-- a value is given to a register
+pub give_makes : (w : LibWorld) (code code' : Code) (s s1 s2 : StackView) (to next : ℕ) (v : m.Value) → code' ≡ code → Becomes (changed (machine.set to v)) w code s w s1 → Becomes (changed (placed next)) w code' s1 w s2 → GoesOn s → Makes (give to v next) w code s w s2
+give_makes w code code' s s1 s2 to next v e one two h =
+    row_goes w w code s s1 s2 (give to v next) (machine.set to v) next (λ f fs v. refl) (set_keeps to v) one (subst (λ c. Becomes (changed (placed next)) w c s1 w s2) e two) h
+
+-- a row that gives a register what is read of the function that runs
+pub read_makes : (w w' : LibWorld) (code : Code) (s s' : StackView) (r : Row) (to next : ℕ) (v : m.Value) (read : Inside → m.Value) → Makes (give to v next) w code s w' s' → ((f : machine.Frame) (fs : List machine.Frame) (u : machine.World) → r f fs u ≡ give to (read (inside f u)) next f fs u) → ((x : Focus) (replies : List Reply) → v ≡ read_of m.Nil read (part w code s x replies)) → GoesOn s → Makes r w code s w' s'
+unfolding part
+read_makes w w' code s s' r to next v read makes is same h = λ replies.
+    let i = inner s (runs_on s h) in
+    let cs : List Closure = (objects_of w.arena w.owner).closures in
+    let run : machine.Frame = running w.names cs s i.closure i.frame in
+    let others : List machine.Frame = waiting w.names cs s.registers s.cells (reverse (outer s)) in
+    let world : machine.World = world_with w code s.frames replies (cells_of w.names w.owner s w.arena) in
+    let split = functions_split w.names cs s i.frame i.closure i.is i.of in
+    let value : v ≡ read (inside run world) = same Run replies ∙ ap (λ fs. read_in m.Nil read fs world) split in
+    ap (λ fs. row_in r fs world) split
+    ∙ is run others world
+    ∙ ap (λ u. give to u next run others world) (sym value)
+    ∙ sym (ap (λ fs. row_in (give to v next) fs world) split)
+    ∙ makes replies
+
+-- a row that gives a register a value that is known
+pub known_makes : (w w' : LibWorld) (code : Code) (s s' : StackView) (r : Row) (to next : ℕ) (u v : m.Value) → Makes (give to u next) w code s w' s' → u ≡ v → ((f : machine.Frame) (fs : List machine.Frame) (x : machine.World) → r f fs x ≡ give to v next f fs x) → GoesOn s → Makes r w code s w' s'
+unfolding part
+known_makes w w' code s s' r to next u v makes e is h = λ replies.
+    let i = inner s (runs_on s h) in
+    let cs : List Closure = (objects_of w.arena w.owner).closures in
+    let run : machine.Frame = running w.names cs s i.closure i.frame in
+    let others : List machine.Frame = waiting w.names cs s.registers s.cells (reverse (outer s)) in
+    let world : machine.World = world_with w code s.frames replies (cells_of w.names w.owner s w.arena) in
+    let split = functions_split w.names cs s i.frame i.closure i.is i.of in
+    ap (λ fs. row_in r fs world) split
+    ∙ is run others world
+    ∙ ap (λ u. give to u next run others world) (sym e)
+    ∙ sym (ap (λ fs. row_in (give to u next) fs world) split)
+    ∙ makes replies
