@@ -346,7 +346,7 @@ part_delivered w code s to vs x replies h layout is may =
     ∙ ap (λ k. changed (λ i. set_all to vs' (cut_in (to + k) to i)) (part w code s x replies)) count
     ∙ part_ended w code s f i.closure to vs' x replies i.is i.of layout is
 
-all_drop : {A : Type 0} (P : A → Type 0) (n : ℕ) (xs : List A) → AllByRecursion P xs → AllByRecursion P (drop n xs)
+pub all_drop : {A : Type 0} (P : A → Type 0) (n : ℕ) (xs : List A) → AllByRecursion P xs → AllByRecursion P (drop n xs)
 all_drop P zero xs h = h
 all_drop P (suc n) [] h = tt
 all_drop P (suc n) (x ∷ xs) h = all_drop P n xs h.1

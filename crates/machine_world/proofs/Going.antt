@@ -1,6 +1,8 @@
 -- Rows that call nothing.
-use Rattle.std.proofs.Common.{◌≡◌, ℕ, List, [], ◌∷◌, reverse, Option, Some, None, IsSomeAnd, refl, sym, ◌∙◌, ap, subst}
+use Rattle.std.proofs.Common.{◌≡◌, ℕ, Bool, List, [], ◌∷◌, reverse, Option, Some, None, IsSomeAnd, refl, sym, ◌∙◌, ap, subst}
+use Rattle.value_model.specs.Parts.{meant}
 use Rattle.value_model.specs.Values as m
+use Rattle.value_model.specs.declared.value.Value.TheVariants as value
 use Rattle.value_model.specs.declared.event.Reply.{Reply}
 use Rattle.value_model.specs.declared.ids.ClosureId.{ClosureId}
 use Rattle.value_arena.specs.declared.closure.Closure.{Closure}
@@ -97,3 +99,33 @@ known_makes w w' code s s' r to next u v makes e is h = λ replies.
     ∙ ap (λ u. give to u next run others world) (sym e)
     ∙ sym (ap (λ fs. row_in (give to u next) fs world) split)
     ∙ makes replies
+
+-- a change by a value that is read is that change by what is read
+pub read_becomes : (w w' : LibWorld) (code : Code) (s s' : StackView) (change : m.Value → Inside → Inside) (read : Inside → m.Value) (v : m.Value) → Becomes (changed (change v)) w code s w' s' → ((x : Focus) (replies : List Reply) → v ≡ read_of m.Nil read (part w code s x replies)) → GoesOn s → Becomes (changed (λ i. change (read i) i)) w code s w' s'
+unfolding part
+read_becomes w w' code s s' change read v becomes same h = λ x replies.
+    let i = inner s (runs_on s h) in
+    let cs : List Closure = (objects_of w.arena w.owner).closures in
+    let run : machine.Frame = running w.names cs s i.closure i.frame in
+    let others : List machine.Frame = waiting w.names cs s.registers s.cells (reverse (outer s)) in
+    let world : machine.World = world_with w code s.frames replies (cells_of w.names w.owner s w.arena) in
+    let split = functions_split w.names cs s i.frame i.closure i.is i.of in
+    let value : v ≡ read (inside run world) = same x replies ∙ ap (λ fs. read_in m.Nil read fs world) split in
+    becomes x replies
+    ∙ ap (λ fs. changed_in (change v) x fs world) split
+    ∙ ap (λ u. changed_in (change u) x (run ∷ others) world) value
+    ∙ sym (ap (λ fs. changed_in (λ i. change (read i) i) x fs world) split)
+
+pub bool_is : (texts : List m.Bytes) (b : Bool) → meant texts (value.Bool b) ≡ m.Boolean b
+unfolding meant
+bool_is texts b = refl
+
+-- what follows from a value that is read is read
+pub read_through : (w : LibWorld) (code : Code) (s : StackView) (x : Focus) (replies : List Reply) (g : m.Value → m.Value) (read : Inside → m.Value) (v : m.Value) → v ≡ read_of m.Nil read (part w code s x replies) → GoesOn s → g v ≡ read_of m.Nil (λ i. g (read i)) (part w code s x replies)
+unfolding part
+read_through w code s x replies g read v e h =
+    let i = inner s (runs_on s h) in
+    let cs : List Closure = (objects_of w.arena w.owner).closures in
+    let world : machine.World = world_with w code s.frames replies (cells_of w.names w.owner s w.arena) in
+    let split = functions_split w.names cs s i.frame i.closure i.is i.of in
+    ap g (e ∙ ap (λ fs. read_in m.Nil read fs world) split) ∙ sym (ap (λ fs. read_in m.Nil (λ i. g (read i)) fs world) split)

@@ -10,3 +10,4 @@ pub mod Results
 pub mod Changing
 pub mod Delivering
 pub mod Going
+pub mod Listing

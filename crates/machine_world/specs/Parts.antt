@@ -1,5 +1,5 @@
 -- What a script's running state means.
-use Rattle.std.specs.Prelude.{◌≡◌, ℕ, ◌-◌, List, [], ◌∷◌, map, reverse, replicate, length, if◌then◌else◌, Option, slice_get, slice_index_or, slice_set, ◌+◌}
+use Rattle.std.specs.Prelude.{◌≡◌, ℕ, zero, suc, ◌-◌, List, [], ◌∷◌, map, reverse, replicate, length, if◌then◌else◌, Option, slice_get, slice_index_or, slice_set, ◌+◌}
 use Rattle.std.specs.Option.{option_map, option_and_then}
 use Rattle.value_model.specs.Parts.{meant}
 use Rattle.value_model.specs.Values as m
@@ -128,6 +128,11 @@ delivered to vs i = let j = set_all to vs i in record j { frame = ended (to + le
 -- so many values less one from a register on, or all up to the top
 abbrev pub list_of : (count from : ℕ) → Inside → List m.Value
 list_of count from i = list_from count from i.frame i.world
+
+-- how many these are, from a place on
+abbrev pub span : (count top at : ℕ) → ℕ
+span zero top at = top - at
+span (suc n) top at = n
 
 -- it waits for a call
 abbrev pub waits : Purpose → Inside → Inside

@@ -1,6 +1,6 @@
 //! The running state of a script.
 
-ghost use Rattle.std.specs.Prelude.{◌≡◌, ◌<◌, ◌≤◌, List, length, map, OnOk, IfOk, OnErr};
+ghost use Rattle.std.specs.Prelude.{◌≡◌, ◌<◌, ◌≤◌, List, [], length, map, OnOk, IfOk, OnErr};
 ghost use Rattle.std.specs.List.{AllByRecursion};
 ghost use Rattle.value_model.specs.declared.value.Value.TheVariants.{Closure};
 ghost use Rattle.value_model.specs.Parts.{meant};
@@ -10,7 +10,7 @@ ghost use Rattle.luau_tables.specs.Worlds.{MayUseIn};
 ghost use Rattle.machine_meaning.specs.States as machine;
 ghost use Rattle.machine_world.specs.Functions.{purpose_of};
 ghost use Rattle.machine_world.specs.Parts as parts;
-ghost use Rattle.machine_world.specs.Sound.{IsMachine, HasRegister, HasUpvalue, HasPlaceOf, IsCell, Up, Runs, GoesOn};
+ghost use Rattle.machine_world.specs.Sound.{IsMachine, HasRegister, HasUpvalue, HasPlaceOf, HasList, IsCell, Up, Runs, GoesOn};
 
 use crate::code::Code;
 use call_frames::{Frame, ReturnKind, Stack};
@@ -144,6 +144,24 @@ impl Machine {
         self.stack.set_top(0);
     }
 
+    /// One value fewer than `count` from a register on, or at 0 all up to where the list of values ends.
+    pub fn list(&self, world: &LibWorld, from: u8, count: u8) -> &[Value]
+        requires sound { IsMachine world.now self.now.stack }
+        requires has { HasList self.now.stack count from }
+        ensures values { (x : machine.Focus) (replies : List Reply) → map (meant world.now.names) result.now ≡ parts.read_of [] (parts.list_of count from) (parts.part world.now self.now.code self.now.stack x replies) }
+        ensures usable { AllByRecursion (MayUseIn world.now) result.now }
+    {
+        self.stack.lies();
+        let _end = self.stack.end();
+        let top = self.stack.top();
+        let Some(frame) = self.stack.frame() else {
+            unreachable!()
+        };
+        let at = frame.base + usize::from(from);
+        let values = span(count, top, at);
+        self.stack.values(at, values)
+    }
+
     /// Values into the registers of the function that runs, from one on. Its list of values ends behind them.
     pub fn deliver(&mut self, world: &LibWorld, to: u8, vs: &[Value]) -> Result<(), OutOfMemory>
         requires sound { IsMachine world.now self.old.stack }
@@ -193,6 +211,18 @@ impl Machine {
         self.stack.lies();
         let _end = self.stack.end();
         self.stack.call(closure, registers, given, extra)
+    }
+}
+
+// How many values there are from a place on: one fewer than `count`, or at 0 all up to the top.
+fn span(count: u8, top: usize, at: usize) -> usize
+    requires { count ≡ 0 → at ≤ top }
+    ensures { result ≡ parts.span count top at }
+{
+    if count == 0 {
+        top - at
+    } else {
+        usize::from(count) - 1
     }
 }
 
