@@ -1,7 +1,6 @@
 -- The innermost frame goes on at another place, or waits.
-use Rattle.std.proofs.Common.{◌≡◌, ℕ, zero, suc, ◌+◌, ◌-◌, ◌<◌, ◌≤◌, max, Bool, true, false, cond, nat_lt, List, [], ◌∷◌, ◌++◌, map, reverse, replicate, length, take, set, Option, Some, None, slice_get, IsSomeAnd, refl, sym, ◌∙◌, ap, subst, rules, arith, lt-ltb, le-ltb}
+use Rattle.std.proofs.Common.{◌≡◌, ℕ, zero, suc, ◌+◌, ◌-◌, ◌<◌, ◌≤◌, max, Bool, true, false, cond, nat_lt, List, [], ◌∷◌, ◌++◌, map, reverse, replicate, length, set, Some, slice_get, IsSomeAnd, refl, sym, ◌∙◌, ap, subst, arith, lt-ltb, le-ltb}
 use Rattle.std.specs.List.{AllByRecursion}
-use Rattle.std.specs.Option.{option_map_or}
 use Rattle.std.proofs.lemmas.Bool.{ltb-true, ltb-false}
 use mathlib.Core.Path.{fun_ext}
 use Rattle.value_model.specs.Values as m
@@ -14,7 +13,7 @@ use Rattle.call_frames.specs.declared.frame.Frame.{Frame}
 use Rattle.call_frames.specs.declared.frame.OpenCell.{OpenCell}
 use Rattle.call_frames.specs.declared.frame.ReturnKind.{ReturnKind}
 use Rattle.call_frames.specs.declared.frame.ReturnKind.TheVariants.{Idle}
-use Rattle.call_frames.specs.Stacks.{StackView, Layout}
+use Rattle.call_frames.specs.Stacks.{StackView}
 use Rattle.call_frames.specs.Cells.{innermost, outer, with_innermost}
 use Rattle.call_frames.specs.Cells as opens
 use Rattle.call_frames.proofs.Closing.{split_last, last_got, front_is}
@@ -25,8 +24,8 @@ use Rattle.machine_world.specs.declared.code.Code.{Code}
 use Rattle.machine_world.specs.Functions.{register, window, function_of, waiting, running, functions_of, cells_of, wait_of, wait_in, purpose_of}
 use Rattle.machine_world.specs.Parts.{world_with, state_with, part, waits_in, changed_in, changed, placed, waits}
 use Rattle.machine_world.specs.Sound.{IsOwnOf, first, later, AreOwn, IsFunctionOf, IsLuau, Runs, GoesOn, IsMachine}
-use Rattle.machine_world.proofs.Frames.{Inner, inner, of_frame, functions_split}
-use Rattle.machine_world.proofs.Written.{after, all_set}
+use Rattle.machine_world.proofs.Frames.{inner, of_frame, functions_split}
+use Rattle.machine_world.proofs.Written.{all_set}
 use Rattle.machine_world.proofs.Calling.{reverse_last}
 
 -- the innermost frame, with another place and another kind, and where its list of values ends

@@ -1,5 +1,5 @@
 -- Values are delivered to the function that runs.
-use Rattle.std.proofs.Common.{◌≡◌, ◌≢◌, ℕ, zero, suc, ◌+◌, ◌-◌, ◌<◌, ◌≤◌, max, min, Bool, true, false, cond, nat_eq, nat_lt, List, [], ◌∷◌, ◌++◌, map, reverse, replicate, length, take, drop, get_or, set, Option, Some, None, IsSomeAnd, slice_get, refl, sym, ◌∙◌, ap, subst, rules, arith, lt-ltb, le-ltb, ◌⊎◌, inl, inr, ⊎_elim, length-append, append-nil, append_assoc}
+use Rattle.std.proofs.Common.{◌≡◌, ◌≢◌, ℕ, zero, suc, ◌+◌, ◌-◌, ◌<◌, ◌≤◌, max, Bool, true, false, cond, nat_eq, nat_lt, List, [], ◌∷◌, ◌++◌, map, reverse, replicate, length, take, drop, get_or, set, Option, Some, None, IsSomeAnd, refl, sym, ◌∙◌, ap, subst, arith, lt-ltb, le-ltb, ◌⊎◌, inl, inr, ⊎_elim, length-append, append-nil, append_assoc}
 use Rattle.std.specs.List.{AllByRecursion}
 use Rattle.std.proofs.lemmas.List.{length-map, length-set, length-take, length-replicate, take-append-drop, take-append-le, take-take, take_at, take_more_set, drop-set-lt, drop_all, get_or-append_right}
 use Rattle.std.proofs.lemmas.Bool.{ltb-true, ltb-false, cases_lt}
@@ -18,7 +18,7 @@ use Rattle.luau_tables.specs.declared.globals.LibWorld.{LibWorld}
 use Rattle.luau_tables.proofs.Sameness.{nil_is}
 use Rattle.call_frames.specs.declared.frame.Frame.{Frame}
 use Rattle.call_frames.specs.Stacks.{StackView, Layout, Rises, AreBelow}
-use Rattle.call_frames.specs.Cells.{cell_on, HasPlace, innermost, outer, place_in, place_of, end_in, end_of, overlaid, delivered}
+use Rattle.call_frames.specs.Cells.{cell_on, HasPlace, innermost, outer, place_of, end_in, end_of, overlaid, delivered}
 use Rattle.call_frames.proofs.Ending.{lies_on}
 use Rattle.machine_meaning.specs.States as machine
 use Rattle.machine_meaning.specs.States.{Register, Val, Open, Registers, Focus, State, Inside, put, write, set_all, with_cells}
@@ -29,7 +29,7 @@ use Rattle.machine_world.specs.Parts as parts
 use Rattle.machine_world.specs.Parts.{world_with, state_with, part, changed_in, changed}
 use Rattle.machine_world.specs.Sound.{IsLuau, Runs, HasPlaceOf, IsMachine}
 use Rattle.machine_world.proofs.Registers.{shown}
-use Rattle.machine_world.proofs.Frames.{Inner, inner, of_frame, functions_split, Lies, lies, functions_changed}
+use Rattle.machine_world.proofs.Frames.{inner, of_frame, functions_split, lies, functions_changed}
 use Rattle.machine_world.proofs.Written.{after, write_at, all_set, keeps_registers}
 use Rattle.machine_world.proofs.Calling.{below_end, none_above, register_front, laid_front, given_get, all_take, all_append, all_replicate}
 

@@ -1,28 +1,29 @@
 -- Rows that call nothing.
-use Rattle.std.proofs.Common.{◌≡◌, ℕ, Bool, List, [], ◌∷◌, reverse, Option, Some, None, IsSomeAnd, refl, sym, ◌∙◌, ap, subst}
+use Rattle.std.proofs.Common.{◌≡◌, ℕ, ◌+◌, Bool, List, [], ◌∷◌, reverse, Option, Some, None, IsSomeAnd, refl, sym, ◌∙◌, ap, subst}
 use Rattle.value_model.specs.Parts.{meant}
 use Rattle.value_model.specs.Values as m
 use Rattle.value_model.specs.declared.value.Value.TheVariants as value
 use Rattle.value_model.specs.declared.event.Reply.{Reply}
-use Rattle.value_model.specs.declared.ids.ClosureId.{ClosureId}
 use Rattle.value_arena.specs.declared.closure.Closure.{Closure}
 use Rattle.value_arena.specs.Arenas.{objects_of}
 use Rattle.bounded_runs.specs.Runs.{Goes}
 use Rattle.luau_tables.specs.declared.globals.LibWorld.{LibWorld}
 use Rattle.call_frames.specs.declared.frame.Frame.{Frame}
-use Rattle.call_frames.specs.declared.frame.ReturnKind.{ReturnKind}
 use Rattle.call_frames.specs.declared.frame.ReturnKind.TheVariants.{Idle}
 use Rattle.call_frames.specs.Stacks.{StackView}
 use Rattle.call_frames.specs.Cells.{innermost, outer}
 use Rattle.machine_meaning.specs.States as machine
 use Rattle.machine_meaning.specs.States.{Register, Val, Open, Run, Focus, Inside, State, write}
-use Rattle.machine_meaning.specs.Moves.{Row, Step, inside, on, go, give}
+use Rattle.machine_meaning.specs.Moves.{Row, Step, inside, on, go, give, saved}
+use Rattle.machine_meaning.specs.Calls.{hand_back}
+use Rattle.machine_meaning.specs.Effects.{list_from, call}
+use Rattle.value_model.specs.Waits.{ByScript}
 use Rattle.machine_world.specs.declared.code.Code.{Code}
-use Rattle.machine_world.specs.Functions.{waiting, running, functions_of, cells_of, purpose_of}
-use Rattle.machine_world.specs.Parts.{world_with, part, changed, changed_in, placed, Becomes, read_in, read_of}
-use Rattle.machine_world.specs.Rows.{row_in, Makes}
+use Rattle.machine_world.specs.Functions.{waiting, running, cells_of, purpose_of}
+use Rattle.machine_world.specs.Parts.{world_with, part, changed, changed_in, placed, waits, left, register_value, list_of, Becomes, read_in, read_of}
+use Rattle.machine_world.specs.Rows.{row_in, Makes, MakesTo}
 use Rattle.machine_world.specs.Sound.{IsLuau, Runs, GoesOn}
-use Rattle.machine_world.proofs.Frames.{Inner, inner, of_frame, functions_split}
+use Rattle.machine_world.proofs.Frames.{inner, of_frame, functions_split}
 
 goes_some : (q : Option Frame) → IsSomeAnd q (λ f. IsLuau f × (f.kind ≡ Idle)) → IsSomeAnd q IsLuau
 goes_some None h = h
@@ -129,3 +130,39 @@ read_through w code s x replies g read v e h =
     let world : machine.World = world_with w code s.frames replies (cells_of w.names w.owner s w.arena) in
     let split = functions_split w.names cs s i.frame i.closure i.is i.of in
     ap g (e ∙ ap (λ fs. read_in m.Nil read fs world) split) ∙ sym (ap (λ fs. read_in m.Nil (λ i. g (read i)) fs world) split)
+
+-- ---- calls and returns
+
+-- a call waits, with what is called and its arguments
+pub call_makes : (w : LibWorld) (code : Code) (s s' : StackView) (base arguments results next : ℕ) (callee : m.Value) (args : List m.Value) → ((x : Focus) (replies : List Reply) → callee ≡ read_of m.Nil (register_value base) (part w code s x replies)) → ((x : Focus) (replies : List Reply) → args ≡ read_of [] (list_of arguments (base + 1)) (part w code s x replies)) → Becomes (changed (waits (machine.Results base results next))) w code s w s' → GoesOn s → MakesTo (call base arguments results next) w code s (machine.Invoke ByScript callee args) w s'
+unfolding part
+call_makes w code s s' base arguments results next callee args is_callee is_args becomes h = λ replies.
+    let i = inner s (runs_on s h) in
+    let cs : List Closure = (objects_of w.arena w.owner).closures in
+    let run : machine.Frame = running w.names cs s i.closure i.frame in
+    let others : List machine.Frame = waiting w.names cs s.registers s.cells (reverse (outer s)) in
+    let world : machine.World = world_with w code s.frames replies (cells_of w.names w.owner s w.arena) in
+    let split = functions_split w.names cs s i.frame i.closure i.is i.of in
+    let f : callee ≡ machine.value_in run world base = is_callee Run replies ∙ ap (λ fs. read_in m.Nil (register_value base) fs world) split in
+    let vs : args ≡ list_from arguments (base + 1) run world = is_args Run replies ∙ ap (λ fs. read_in [] (list_of arguments (base + 1)) fs world) split in
+    let done : m.Value → List m.Value → Step = λ f vs. Goes [] (record { focus = machine.Invoke ByScript f vs; functions = saved (machine.Results base results next) run ∷ others; world = world }) in
+    ap (λ fs. row_in (call base arguments results next) fs world) split
+    ∙ ap (λ f. done f (list_from arguments (base + 1) run world)) (sym f)
+    ∙ ap (λ vs. done callee vs) (sym vs)
+    ∙ sym (ap (λ t. Goes [] t) (becomes (machine.Invoke ByScript callee args) replies ∙ ap (λ fs. changed_in (waits (machine.Results base results next)) (machine.Invoke ByScript callee args) fs world) split))
+
+-- a function is left with values
+pub return_makes : (w w' : LibWorld) (code : Code) (s s' : StackView) (r : Row) (base count : ℕ) (vs : List m.Value) → ((f : machine.Frame) (fs : List machine.Frame) (u : machine.World) → r f fs u ≡ hand_back (list_from count base f u) fs u) → ((x : Focus) (replies : List Reply) → vs ≡ read_of [] (list_of count base) (part w code s x replies)) → Becomes left w code s w' s' → GoesOn s → MakesTo r w code s (machine.Hand vs) w' s'
+unfolding part
+return_makes w w' code s s' r base count vs is is_vs becomes h = λ replies.
+    let i = inner s (runs_on s h) in
+    let cs : List Closure = (objects_of w.arena w.owner).closures in
+    let run : machine.Frame = running w.names cs s i.closure i.frame in
+    let others : List machine.Frame = waiting w.names cs s.registers s.cells (reverse (outer s)) in
+    let world : machine.World = world_with w code s.frames replies (cells_of w.names w.owner s w.arena) in
+    let split = functions_split w.names cs s i.frame i.closure i.is i.of in
+    let values : vs ≡ list_from count base run world = is_vs Run replies ∙ ap (λ fs. read_in [] (list_of count base) fs world) split in
+    ap (λ fs. row_in r fs world) split
+    ∙ is run others world
+    ∙ ap (λ vs. hand_back vs others world) (sym values)
+    ∙ sym (ap (λ t. Goes [] t) (becomes (machine.Hand vs) replies ∙ ap (λ fs. left (record { focus = machine.Hand vs; functions = fs; world = world })) split))

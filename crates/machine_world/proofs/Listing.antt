@@ -1,12 +1,11 @@
 -- Lists of values in the registers of the function that runs.
-use Rattle.std.proofs.Common.{◌≡◌, ℕ, zero, suc, ◌+◌, ◌-◌, ◌<◌, ◌≤◌, max, Bool, true, false, cond, nat_lt, List, [], ◌∷◌, map, reverse, length, take, drop, get_or, Option, Some, None, IsSomeAnd, refl, sym, ◌∙◌, ap, subst, rules, arith, lt-ltb, ◌⊎◌, inl, inr, ⊎_elim}
+use Rattle.std.proofs.Common.{◌≡◌, ℕ, zero, suc, ◌+◌, ◌-◌, ◌≤◌, max, cond, List, [], ◌∷◌, map, length, take, drop, get_or, Option, Some, None, IsSomeAnd, refl, sym, ◌∙◌, ap, subst, arith, lt-ltb, ◌⊎◌, inl, inr, ⊎_elim}
 use Rattle.std.specs.List.{AllByRecursion}
-use Rattle.std.proofs.lemmas.List.{drop_more, length-map}
+use Rattle.std.proofs.lemmas.List.{drop_more}
 use Rattle.value_model.specs.Parts.{meant}
 use Rattle.value_model.specs.Values as m
 use Rattle.value_model.specs.declared.event.Reply.{Reply}
 use Rattle.value_model.specs.declared.ids.ClosureId.{ClosureId}
-use Rattle.value_model.specs.declared.value.Value.{Value}
 use Rattle.value_model.specs.declared.value.Value.TheVariants as value
 use Rattle.value_arena.specs.declared.closure.Closure.{Closure}
 use Rattle.value_arena.specs.Arenas.{objects_of}
@@ -14,17 +13,17 @@ use Rattle.luau_tables.specs.Worlds.{MayUseIn}
 use Rattle.luau_tables.specs.declared.globals.LibWorld.{LibWorld}
 use Rattle.call_frames.specs.declared.frame.Frame.{Frame}
 use Rattle.call_frames.specs.Stacks.{StackView, Layout}
-use Rattle.call_frames.specs.Cells.{innermost, outer, end_in, end_of}
+use Rattle.call_frames.specs.Cells.{innermost, end_in, end_of}
 use Rattle.machine_meaning.specs.States as machine
 use Rattle.machine_meaning.specs.States.{Register, Val, Focus, held, values_in}
 use Rattle.machine_meaning.specs.Effects.{list_from}
 use Rattle.machine_world.specs.declared.code.Code.{Code}
-use Rattle.machine_world.specs.Functions.{register, window, waiting, running, functions_of, laid, kept_cells, cells_of}
+use Rattle.machine_world.specs.Functions.{register, running, laid, kept_cells, cells_of}
 use Rattle.machine_world.specs.Parts.{world_with, part, read_in, read_of, list_of, span}
 use Rattle.machine_world.specs.Sound.{IsLuau, Runs, ReachesTo, HasList, IsMachine}
 use Rattle.machine_world.proofs.Laid.{distinct}
 use Rattle.machine_world.proofs.Registers.{held_is}
-use Rattle.machine_world.proofs.Frames.{Inner, inner, of_frame, functions_split, Lies, lies}
+use Rattle.machine_world.proofs.Frames.{inner, of_frame, functions_split, lies}
 use Rattle.machine_world.proofs.Written.{of_kept}
 use Rattle.machine_world.proofs.Calling.{all_take}
 use Rattle.machine_world.proofs.Delivering.{all_drop}

@@ -5,7 +5,7 @@ use Rattle.value_model.specs.declared.event.Reply.{Reply}
 use Rattle.bounded_runs.specs.Runs.{Goes, Ends}
 use Rattle.luau_tables.specs.declared.globals.LibWorld.{LibWorld}
 use Rattle.call_frames.specs.Stacks.{StackView}
-use Rattle.machine_meaning.specs.States.{Run, Frame, World}
+use Rattle.machine_meaning.specs.States.{Run, Focus, Frame, World}
 use Rattle.machine_meaning.specs.Moves.{Row, Step}
 use Rattle.machine_world.specs.declared.code.Code.{Code}
 use Rattle.machine_world.specs.Parts.{part}
@@ -18,3 +18,8 @@ row_in row (f ∷ fs) w = row f fs w
 abbrev pub Makes : Row → LibWorld → Code → StackView → LibWorld → StackView → Type 0
 Makes row w code s w' s' =
     (replies : List Reply) → row_in row (part w code s Run replies).functions (part w code s Run replies).world ≡ Goes [] (part w' code s' Run replies)
+
+-- it goes on to something else that is done then
+abbrev pub MakesTo : Row → LibWorld → Code → StackView → Focus → LibWorld → StackView → Type 0
+MakesTo row w code s x w' s' =
+    (replies : List Reply) → row_in row (part w code s Run replies).functions (part w code s Run replies).world ≡ Goes [] (part w' code s' x replies)

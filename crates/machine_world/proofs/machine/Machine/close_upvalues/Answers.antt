@@ -1,5 +1,4 @@
 use Rattle.std.proofs.Common.{refl, subst}
-use Rattle.call_frames.specs.Stacks.{StackView}
 use Rattle.op_words.specs.declared.insn.Insn.TheVariants.{CloseUpvalues}
 use Rattle.machine_meaning.specs.Instructions.{row}
 use Rattle.machine_world.specs.Parts.{Becomes, changed, placed, close}

@@ -1,6 +1,6 @@
 use Rattle.machine_world.specs.Sound.{GoesOn}
 use Rattle.machine_world.proofs.Changing.{goes_placed}
-use Rattle.std.proofs.Common.{◌≡◌, ◌∙◌, sym, ap, subst}
+use Rattle.std.proofs.Common.{◌∙◌, sym, ap, subst}
 use Rattle.call_frames.specs.Stacks.{StackView}
 use Rattle.machine_world.specs.Parts.{part}
 use Rattle.machine_world.specs.Sound.{IsMachine}

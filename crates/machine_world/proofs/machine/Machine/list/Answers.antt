@@ -1,6 +1,5 @@
-use Rattle.std.proofs.Common.{◌≡◌, ◌+◌, ◌<◌, ◌≤◌, ℕ, List, length, map, take, drop, Some, sym, ◌∙◌, ap, subst, arith, ⊎_elim, Fits, w64}
+use Rattle.std.proofs.Common.{◌≡◌, ◌+◌, map, take, drop, Some, sym, ◌∙◌, ap, arith, ⊎_elim}
 use Rattle.value_model.specs.Parts.{meant}
-use Rattle.value_model.specs.declared.value.Value.{Value}
 use Rattle.call_frames.specs.Cells.{innermost}
 use Rattle.machine_world.specs.Parts.{span}
 use Rattle.machine_world.proofs.Listing.{Reached, reached, part_list, list_place}

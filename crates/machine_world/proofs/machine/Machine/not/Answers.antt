@@ -1,10 +1,10 @@
-use Rattle.std.proofs.Common.{◌≡◌, not, refl, sym, ◌∙◌, ap}
+use Rattle.std.proofs.Common.{not, refl, sym, ◌∙◌, ap}
 use Rattle.value_model.specs.Parts.{meant}
 use Rattle.value_model.specs.Values.{Boolean, is_true}
 use Rattle.value_model.specs.declared.value.Value.TheVariants.{Bool}
 use Rattle.op_words.specs.declared.insn.Insn.TheVariants.{Not}
 use Rattle.machine_meaning.specs.Instructions.{row}
-use Rattle.machine_world.specs.Parts.{register_value, read_of}
+use Rattle.machine_world.specs.Parts.{register_value}
 use Rattle.machine_world.proofs.Going.{read_makes, bool_is, read_through}
 use Rattle.machine_world.proofs.machine.Machine.not.Goals as goal
 

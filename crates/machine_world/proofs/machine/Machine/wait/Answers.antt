@@ -1,4 +1,4 @@
-use Rattle.std.proofs.Common.{◌≡◌, ◌∙◌, sym, ap, subst}
+use Rattle.std.proofs.Common.{◌∙◌, sym, ap, subst}
 use Rattle.call_frames.specs.Stacks.{StackView}
 use Rattle.machine_world.specs.Parts.{part}
 use Rattle.machine_world.specs.Sound.{IsMachine}
