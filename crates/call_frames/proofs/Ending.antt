@@ -28,7 +28,8 @@ pub record EndsAt (s : StackView) (f : Frame) : Type 0 where
   pub at : end_of s ≡ f.base + f.registers
   pub within : f.base + f.registers ≤ length s.registers
 
-pub ends_at : (s : StackView) (f : Frame) → 0 < length s.frames → f ≡ get_or s.frames (length s.frames - 1) f → AreBelow (length s.registers) s.frames → EndsAt s f
+pub ends_at : (s : StackView) (f : Frame) → 0 < length s.frames → f ≡ get_or s.frames (length s.frames - 1) f →
+    AreBelow (length s.registers) s.frames → EndsAt s f
 ends_at s f some e below =
     let is : innermost s ≡ Some f = read_last s.frames (length s.frames - 1) f (omega (arith, some)) e in
     record {
@@ -94,7 +95,8 @@ lying_on s regs top fs layout le high e =
     let on = lies_on s (length regs) layout le in
     (on.0, high, subst (AreBelow (length regs)) (sym e) on.1, subst AreApart (sym e) layout.apart, subst (λ fs. AreLive fs s.cells) (sym e) layout.live, layout.once)
 
-called_long : (s : StackView) (n : ℕ) (given extra : List Value) → end_of s ≤ length s.registers → length given ≤ n → length (take (end_of s) s.registers ++ extra ++ given ++ replicate (n - length given) Nil) ≡ end_of s + length extra + n
+called_long : (s : StackView) (n : ℕ) (given extra : List Value) → end_of s ≤ length s.registers → length given ≤ n →
+    length (take (end_of s) s.registers ++ extra ++ given ++ replicate (n - length given) Nil) ≡ end_of s + length extra + n
 called_long s n given extra le few =
     let low : List Value = take (end_of s) s.registers in
     let nils : List Value = replicate (n - length given) Nil in

@@ -74,7 +74,8 @@ pub beside_world : (w : LibWorld) (b : ArenaView) → IsWorld w → Beside w b �
 beside_world w b h k = record { owner = h.owner; own = k.own }
 
 -- the state, from what it is made of
-abbrev pub state_from : store.Store → List Closure → List Thread → TableView → LibWorld → Code → List Frame → Focus → List Reply → List machine.Frame → List m.Value → State
+abbrev pub state_from : store.Store → List Closure → List Thread → TableView → LibWorld → Code → List Frame → Focus → List Reply → List machine.Frame →
+    List m.Value → State
 state_from st cs ts env w code fs x replies functions cells =
     record {
       focus = x;
@@ -126,7 +127,8 @@ abbrev cells_by : ArenaView → Owner → (List Value → List Value) → ArenaV
 cells_by a u g = with_objects a u (record (objects_of a u) { cells = g (objects_of a u).cells })
 
 -- what holds of each cell goes on to hold
-part_held : (Q : ObjectsView → Type 0) (f : ObjectsView → ObjectsView) (a : ArenaView) (w u : Owner) → ((o : ObjectsView) → Q o → Q (f o)) → Q (objects_of a u) → Q (objects_of (with_objects a w (f (objects_of a w))) u)
+part_held : (Q : ObjectsView → Type 0) (f : ObjectsView → ObjectsView) (a : ArenaView) (w u : Owner) → ((o : ObjectsView) → Q o → Q (f o)) →
+    Q (objects_of a u) → Q (objects_of (with_objects a w (f (objects_of a w))) u)
 part_held Q f a w u step h = by a.owners (slot w) (slot u) h
   where
     by : (os : List ObjectsView) (i j : ℕ) → Q (get_or os j no_objects) → Q (get_or (set os i (f (get_or os i no_objects))) j no_objects)
@@ -149,7 +151,9 @@ push_held P [] (suc j) v h k = h
 push_held P (x ∷ xs) zero v h k = h
 push_held P (x ∷ xs) (suc j) v h k = push_held P xs j v h k
 
-texts_by : (texts : List m.Bytes) (a : ArenaView) (u : Owner) (g : List Value → List Value) → ((xs : List Value) (j : ℕ) → HasText texts (get_or xs j Nil) → HasText texts (get_or (g xs) j Nil)) → HasTexts texts a → HasTexts texts (cells_by a u g)
+texts_by : (texts : List m.Bytes) (a : ArenaView) (u : Owner) (g : List Value → List Value) →
+    ((xs : List Value) (j : ℕ) → HasText texts (get_or xs j Nil) → HasText texts (get_or (g xs) j Nil)) → HasTexts texts a →
+    HasTexts texts (cells_by a u g)
 unfolding table_at cell_at thread_at
 texts_by texts a u g step h =
     record {
@@ -159,7 +163,8 @@ texts_by texts a u g step h =
       failures = λ t. part_held (λ o. IfSome (get_or o.threads t.place no_coroutine).failure (λ v. HasText texts v)) (λ o. record o { cells = g o.cells }) a u (wide t.owner) (λ o q. q) (h.failures t);
     }
 
-abbrev pub store_of_parts : (texts : List m.Bytes) → Globals → (shared tables : List TableView) → List Closure → List Thread → Option ThreadId → store.Store
+abbrev pub store_of_parts : (texts : List m.Bytes) → Globals → (shared tables : List TableView) → List Closure → List Thread → Option ThreadId →
+    store.Store
 store_of_parts texts g shared tables closures threads running =
     record {
       globals = globals_of texts g;
@@ -170,7 +175,8 @@ store_of_parts texts g shared tables closures threads running =
       running = option_map place_of_thread running;
     }
 
-store_by : (texts : List m.Bytes) (gs : Globals) (a : ArenaView) (u w : Owner) (g : List Value → List Value) → store_of texts gs (cells_by a u g) w ≡ store_of texts gs a w
+store_by : (texts : List m.Bytes) (gs : Globals) (a : ArenaView) (u w : Owner) (g : List Value → List Value) →
+    store_of texts gs (cells_by a u g) w ≡ store_of texts gs a w
 unfolding store_of
 store_by texts gs a u w g =
     let b : ArenaView = cells_by a u g in
@@ -180,7 +186,9 @@ store_by texts gs a u w g =
     ∙ ap (λ l. store_of_parts texts gs (objects_of a Frozen).tables (objects_of a w).tables l (objects_of b w).threads a.running) (part_kept (λ o. o.closures) f (λ o. refl) a u w)
     ∙ ap (λ l. store_of_parts texts gs (objects_of a Frozen).tables (objects_of a w).tables (objects_of a w).closures l a.running) (part_kept (λ o. o.threads) f (λ o. refl) a u w)
 
-beside_by : (w : LibWorld) (g : List Value → List Value) → IsWorld w → Grows w.arena (cells_by w.arena w.owner g) → IsOwned (cells_by w.arena w.owner g) → ((xs : List Value) (j : ℕ) → HasText w.names (get_or xs j Nil) → HasText w.names (get_or (g xs) j Nil)) → Beside w (cells_by w.arena w.owner g)
+beside_by : (w : LibWorld) (g : List Value → List Value) → IsWorld w → Grows w.arena (cells_by w.arena w.owner g) →
+    IsOwned (cells_by w.arena w.owner g) → ((xs : List Value) (j : ℕ) → HasText w.names (get_or xs j Nil) → HasText w.names (get_or (g xs) j Nil)) →
+    Beside w (cells_by w.arena w.owner g)
 unfolding table_at
 beside_by w g is grows owned step =
     let b : ArenaView = cells_by w.arena w.owner g in

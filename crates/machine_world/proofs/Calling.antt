@@ -56,7 +56,8 @@ pub reverse_last : {A : Type 0} (xs ys : List A) (x : A) → xs ≡ ys ++ x ∷ 
 reverse_last xs ys x e = ap (λ l. reverse l) e ∙ reverse-append ys (x ∷ [])
 
 -- with no list of values, each shows its own registers
-pub waiting_is : (texts : List m.Bytes) (cs : List Closure) (s : StackView) → s.top ≡ 0 → functions_of texts cs s ≡ waiting texts cs s.registers s.cells (reverse s.frames)
+pub waiting_is : (texts : List m.Bytes) (cs : List Closure) (s : StackView) → s.top ≡ 0 →
+    functions_of texts cs s ≡ waiting texts cs s.registers s.cells (reverse s.frames)
 unfolding functions_of
 waiting_is texts cs s none = by (innermost s) refl
   where
@@ -67,7 +68,8 @@ waiting_is texts cs s none = by (innermost s) refl
         ap (λ n. function_of texts cs s.registers s.cells n (s.top - g.base) c g) size
         ∙ ap (λ t. function_of texts cs s.registers s.cells g.registers t c g) top
 
-    by : (q : Option Frame) → slice_get s.frames (length s.frames - 1) ≡ q → option_map_or (λ f. with_function f.closure (λ c. running texts cs s c f) (waiting texts cs s.registers s.cells (reverse (outer s)))) q [] ≡ waiting texts cs s.registers s.cells (reverse s.frames)
+    by : (q : Option Frame) → slice_get s.frames (length s.frames - 1) ≡ q →
+        option_map_or (λ f. with_function f.closure (λ c. running texts cs s c f) (waiting texts cs s.registers s.cells (reverse (outer s)))) q [] ≡ waiting texts cs s.registers s.cells (reverse s.frames)
     by None e = sym (ap (λ fs. waiting texts cs s.registers s.cells (reverse fs)) (no_last s.frames e))
     by (Some g) e =
         with_same g.closure (λ c. running texts cs s c g) (λ c. function_of texts cs s.registers s.cells g.registers 0 c g) (waiting texts cs s.registers s.cells (reverse (outer s))) (waiting texts cs s.registers s.cells (reverse (outer s))) (one g) refl
@@ -80,12 +82,14 @@ pub here_is : (w : LibWorld) → w.arena.running ≡ None → store.here (store_
 unfolding store_of
 here_is w e = ap (λ r. store.place_of_running (option_map place_of_thread r)) e
 
-pub left_waits : (w : LibWorld) (fs gs : List Frame) (f : Frame) → w.arena.running ≡ None → fs ≡ gs ++ f ∷ [] → wait.leave (waits_in w fs) (store_in w) ≡ waits_in w gs
+pub left_waits : (w : LibWorld) (fs gs : List Frame) (f : Frame) → w.arena.running ≡ None → fs ≡ gs ++ f ∷ [] →
+    wait.leave (waits_in w fs) (store_in w) ≡ waits_in w gs
 left_waits w fs gs f e split =
     ap (λ i. wait.with_waiting (waits_in w fs) i (wait.rest_of (wait.waiting (waits_in w fs) i))) (here_is w e)
     ∙ ap (λ l. wait.rest_of (map (wait_of w.names) l) ∷ replicate (length (objects_of w.arena w.owner).threads - 1) []) (reverse_last fs gs f split)
 
-pub more_waits : (w : LibWorld) (fs : List Frame) (f : Frame) → w.arena.running ≡ None → waits_in w (fs ++ f ∷ []) ≡ wait.await (wait_of w.names f) (waits_in w fs) (store_in w)
+pub more_waits : (w : LibWorld) (fs : List Frame) (f : Frame) → w.arena.running ≡ None →
+    waits_in w (fs ++ f ∷ []) ≡ wait.await (wait_of w.names f) (waits_in w fs) (store_in w)
 more_waits w fs f e =
     ap (λ l. map (wait_of w.names) l ∷ replicate (length (objects_of w.arena w.owner).threads - 1) []) (reverse-append fs (f ∷ []))
     ∙ sym (ap (λ i. wait.with_waiting (waits_in w fs) i (wait_of w.names f ∷ wait.waiting (waits_in w fs) i)) (here_is w e))
@@ -101,7 +105,8 @@ of_both w code x replies b = part (record w { arena = b.1 }) code b.0 x replies
 abbrev pub BothSound : LibWorld → Both → Type 0
 BothSound w b = IsMachine (record w { arena = b.1 }) b.0
 
-pub part_left : (w : LibWorld) (code : Code) (s : StackView) (f : Frame) (c : ClosureId) (x : Focus) (replies : List Reply) → innermost s ≡ Some f → f.closure ≡ Some c → Layout s → IsMachine w s → of_both w code x replies (lowered (popped (s, w.arena))) ≡ left (part w code s x replies)
+pub part_left : (w : LibWorld) (code : Code) (s : StackView) (f : Frame) (c : ClosureId) (x : Focus) (replies : List Reply) → innermost s ≡ Some f →
+    f.closure ≡ Some c → Layout s → IsMachine w s → of_both w code x replies (lowered (popped (s, w.arena))) ≡ left (part w code s x replies)
 unfolding part cells_of
 part_left w code s f c x replies e of layout is =
     let l = lies s f e layout in
@@ -176,11 +181,13 @@ none_above n r fs (o ∷ os) below own le =
 get_front : (n q : ℕ) (xs ys : List Value) → q < n → take n xs ≡ take n ys → get_or xs q value.Nil ≡ get_or ys q value.Nil
 get_front n q xs ys lt e = sym (get_or-take n xs q value.Nil lt) ∙ ap (λ l. get_or l q value.Nil) e ∙ get_or-take n ys q value.Nil lt
 
-pub register_front : (texts : List m.Bytes) (regs regs' : List Value) (os : List OpenCell) (n q : ℕ) → take n regs' ≡ take n regs → q < n → register texts regs' os q ≡ register texts regs os q
+pub register_front : (texts : List m.Bytes) (regs regs' : List Value) (os : List OpenCell) (n q : ℕ) → take n regs' ≡ take n regs → q < n →
+    register texts regs' os q ≡ register texts regs os q
 register_front texts regs regs' os n q e lt = ap (λ v. option_map_or (λ (c : CellId). Open c.place) (cell_on q os) (Val (meant texts v))) (get_front n q regs' regs lt e)
 
 -- the cells are as they were, where all open registers are below
-pub laid_front : (texts : List m.Bytes) (regs regs' : List Value) (n : ℕ) (fs : List Frame) (os : List OpenCell) (cs : List m.Value) → take n regs' ≡ take n regs → AreBelow n fs → AreOwn fs os → laid texts regs' os cs ≡ laid texts regs os cs
+pub laid_front : (texts : List m.Bytes) (regs regs' : List Value) (n : ℕ) (fs : List Frame) (os : List OpenCell) (cs : List m.Value) →
+    take n regs' ≡ take n regs → AreBelow n fs → AreOwn fs os → laid texts regs' os cs ≡ laid texts regs os cs
 laid_front texts regs regs' n fs [] cs e below own = refl
 laid_front texts regs regs' n fs (o ∷ os) cs e below own =
     ap (λ l. set l o.cell.place (meant texts (get_or regs' o.register value.Nil))) (laid_front texts regs regs' n fs os cs e below own.1)
@@ -194,7 +201,9 @@ same_place q r e = grind (arith, common_steps)
 next_place : (q r : ℕ) → nat_eq q r ≡ false → r ≤ q → suc r ≤ q
 next_place q r e le = grind (arith, common_steps)
 
-filled_by : (b : Bool) (texts : List m.Bytes) (r : ℕ) (v : Value) (vs : List Value) (q : ℕ) → nat_eq q r ≡ b → r ≤ q → (suc r ≤ q → filled (suc r) (map (meant texts) vs) q ≡ Val (meant texts (get_or vs (q - suc r) value.Nil))) → cond b (Val (meant texts v)) (filled (suc r) (map (meant texts) vs) q) ≡ Val (meant texts (get_or (v ∷ vs) (q - r) value.Nil))
+filled_by : (b : Bool) (texts : List m.Bytes) (r : ℕ) (v : Value) (vs : List Value) (q : ℕ) → nat_eq q r ≡ b → r ≤ q →
+    (suc r ≤ q → filled (suc r) (map (meant texts) vs) q ≡ Val (meant texts (get_or vs (q - suc r) value.Nil))) →
+    cond b (Val (meant texts v)) (filled (suc r) (map (meant texts) vs) q) ≡ Val (meant texts (get_or (v ∷ vs) (q - r) value.Nil))
 filled_by true texts r v vs q e le more =
     let none : q - r ≡ 0 = omega (arith, same_place q r e) in
     sym (ap (λ n. Val (meant texts (get_or (v ∷ vs) n value.Nil))) none)
@@ -203,7 +212,8 @@ filled_by false texts r v vs q e le more =
     let n : q - r ≡ suc (q - suc r) = omega (arith, above) in
     more above ∙ sym (ap (λ n. Val (meant texts (get_or (v ∷ vs) n value.Nil))) n)
 
-pub filled_is : (texts : List m.Bytes) (r : ℕ) (vs : List Value) (q : ℕ) → r ≤ q → filled r (map (meant texts) vs) q ≡ Val (meant texts (get_or vs (q - r) value.Nil))
+pub filled_is : (texts : List m.Bytes) (r : ℕ) (vs : List Value) (q : ℕ) → r ≤ q →
+    filled r (map (meant texts) vs) q ≡ Val (meant texts (get_or vs (q - r) value.Nil))
 filled_is texts r [] q le = ap Val (sym (nil_is texts))
 filled_is texts r (v ∷ vs) q le = filled_by (nat_eq q r) texts r v vs q refl le (filled_is texts (suc r) vs q)
 
@@ -225,7 +235,8 @@ pub record Entered (s : StackView) (n : ℕ) (given extra regs : List Value) : T
   pub varargs : drop (end_of s) (take (end_of s + length extra) regs) ≡ extra
   pub own : (q : ℕ) → get_or regs (end_of s + length extra + q) value.Nil ≡ get_or given q value.Nil
 
-entered_regs : (s : StackView) (n : ℕ) (given extra : List Value) → end_of s ≤ length s.registers → Entered s n given extra (take (end_of s) s.registers ++ extra ++ given ++ replicate (n - length given) value.Nil)
+entered_regs : (s : StackView) (n : ℕ) (given extra : List Value) → end_of s ≤ length s.registers →
+    Entered s n given extra (take (end_of s) s.registers ++ extra ++ given ++ replicate (n - length given) value.Nil)
 entered_regs s n given extra le =
     let e : ℕ = end_of s in
     let low : List Value = take e s.registers in
@@ -241,19 +252,24 @@ entered_regs s n given extra le =
           ∙ get_or-append-add (low ++ extra) (given ++ nils) q value.Nil ∙ given_get given (n - length given) q;
     }
 
-own_entered : (texts : List m.Bytes) (regs given : List Value) (os : List OpenCell) (n base q : ℕ) → ((q : ℕ) → get_or regs (base + q) value.Nil ≡ get_or given q value.Nil) → cell_on (base + q) os ≡ None → length given ≤ n → window texts regs os (max n (length given)) base q ≡ filled 0 (map (meant texts) given) q
+own_entered : (texts : List m.Bytes) (regs given : List Value) (os : List OpenCell) (n base q : ℕ) →
+    ((q : ℕ) → get_or regs (base + q) value.Nil ≡ get_or given q value.Nil) → cell_on (base + q) os ≡ None → length given ≤ n →
+    window texts regs os (max n (length given)) base q ≡ filled 0 (map (meant texts) given) q
 own_entered texts regs given os n base q own none le = by (nat_lt q (max n (length given))) refl ∙ sym (filled_is texts 0 given q (omega arith))
   where
     none_off : q - 0 ≡ q
     none_off = omega arith
 
-    by : (b : Bool) → nat_lt q (max n (length given)) ≡ b → cond b (register texts regs os (base + q)) (Val m.Nil) ≡ Val (meant texts (get_or given (q - 0) value.Nil))
+    by : (b : Bool) → nat_lt q (max n (length given)) ≡ b →
+        cond b (register texts regs os (base + q)) (Val m.Nil) ≡ Val (meant texts (get_or given (q - 0) value.Nil))
     by true t = ap (shown texts regs (base + q)) none ∙ ap (λ v. Val (meant texts v)) (own q) ∙ sym (ap (λ k. Val (meant texts (get_or given k value.Nil))) none_off)
     by false t =
         let high : max n (length given) ≤ q = ltb-false q (max n (length given)) t in
         ap Val (sym (nil_is texts)) ∙ sym (ap (λ v. Val (meant texts v)) (get_or_past given (q - 0) value.Nil (omega (arith, high))))
 
-pub part_called : (w : LibWorld) (code : Code) (s : StackView) (c : ClosureId) (n : ℕ) (given extra : List Value) (x : Focus) (replies : List Reply) → s.top ≡ 0 → length given ≤ n → end_of s ≤ length s.registers → Layout s → IsMachine w s → part w code (called c n given extra s) x replies ≡ entered c.place n (map (meant w.names) given) (map (meant w.names) extra) (part w code s x replies)
+pub part_called : (w : LibWorld) (code : Code) (s : StackView) (c : ClosureId) (n : ℕ) (given extra : List Value) (x : Focus) (replies : List Reply) →
+    s.top ≡ 0 → length given ≤ n → end_of s ≤ length s.registers → Layout s → IsMachine w s →
+    part w code (called c n given extra s) x replies ≡ entered c.place n (map (meant w.names) given) (map (meant w.names) extra) (part w code s x replies)
 unfolding part called cells_of
 part_called w code s c n given extra x replies none le high layout is =
     let names = w.names in
@@ -305,7 +321,9 @@ are_own_more : (fs gs : List Frame) (os : List OpenCell) → AreOwn fs os → Ar
 are_own_more fs gs [] h = tt
 are_own_more fs gs (o ∷ os) h = (own_more fs gs o.register h.0, are_own_more fs gs os h.1)
 
-pub keeps_called : (w : LibWorld) (s : StackView) (c : ClosureId) (n : ℕ) (given extra : List Value) → (wide c.owner ≡ w.owner) × HasClosure w.arena c → AllByRecursion (MayUseIn w) given → AllByRecursion (MayUseIn w) extra → IsMachine w s → IsMachine w (called c n given extra s)
+pub keeps_called : (w : LibWorld) (s : StackView) (c : ClosureId) (n : ℕ) (given extra : List Value) →
+    (wide c.owner ≡ w.owner) × HasClosure w.arena c → AllByRecursion (MayUseIn w) given → AllByRecursion (MayUseIn w) extra → IsMachine w s →
+    IsMachine w (called c n given extra s)
 unfolding called
 keeps_called w s c n given extra there h k is =
     let e : ℕ = end_of s in

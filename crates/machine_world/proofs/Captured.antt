@@ -57,7 +57,8 @@ unfolding new_cell
 own_made a w v room =
     ap (λ (o : ObjectsView). o.cells) (objects_now a w (record (objects_of a w) { cells = (objects_of a w).cells ++ v ∷ [] }) room)
 
-cells_made : (texts : List m.Bytes) (w : Owner) (a : ArenaView) (v : Value) → slot w < length a.owners → kept_cells texts w (new_cell a w v) ≡ kept_cells texts w a ++ meant texts v ∷ []
+cells_made : (texts : List m.Bytes) (w : Owner) (a : ArenaView) (v : Value) → slot w < length a.owners →
+    kept_cells texts w (new_cell a w v) ≡ kept_cells texts w a ++ meant texts v ∷ []
 cells_made texts w a v room =
     ap (map (meant texts)) (own_made a w v room) ∙ map-append (meant texts) (objects_of a w).cells (v ∷ [])
 
@@ -74,18 +75,21 @@ new_place a w = refl
 
 -- ---- a register is captured
 
-own_open : (texts : List m.Bytes) (regs : List Value) (os : List OpenCell) (n base r q : ℕ) (c : CellId) → cell_on (base + r) os ≡ None → r < n → window texts regs (opened (base + r) c os) n base q ≡ put (window texts regs os n base) r (Open c.place) q
+own_open : (texts : List m.Bytes) (regs : List Value) (os : List OpenCell) (n base r q : ℕ) (c : CellId) → cell_on (base + r) os ≡ None → r < n →
+    window texts regs (opened (base + r) c os) n base q ≡ put (window texts regs os n base) r (Open c.place) q
 own_open texts regs os n base r q c none low =
     ap (λ x. cond (nat_lt q n) x (Val m.Nil)) (register_opened texts regs os (base + r) (base + q) c none)
     ∙ ⊎_elim (λ h. here h.0 h.1) (λ h. there h.0 h.1) (eqb_tells q r)
   where
-    here : nat_eq q r ≡ true → q ≡ r → cond (nat_lt q n) (cond (nat_eq (base + r) (base + q)) (Open c.place) (register texts regs os (base + q))) (Val m.Nil) ≡ put (window texts regs os n base) r (Open c.place) q
+    here : nat_eq q r ≡ true → q ≡ r →
+        cond (nat_lt q n) (cond (nat_eq (base + r) (base + q)) (Open c.place) (register texts regs os (base + q))) (Val m.Nil) ≡ put (window texts regs os n base) r (Open c.place) q
     here t e =
         ap (λ b. cond (nat_lt q n) (cond b (Open c.place) (register texts regs os (base + q))) (Val m.Nil)) (eq-eqb (base + r) (base + q) (omega (arith, e)))
         ∙ ap (λ b. cond b (Open c.place) (Val m.Nil)) (lt-ltb q n (omega (arith, e, low)))
         ∙ sym (ap (λ b. cond b (Open c.place) (window texts regs os n base q)) t)
 
-    there : nat_eq q r ≡ false → q ≢ r → cond (nat_lt q n) (cond (nat_eq (base + r) (base + q)) (Open c.place) (register texts regs os (base + q))) (Val m.Nil) ≡ put (window texts regs os n base) r (Open c.place) q
+    there : nat_eq q r ≡ false → q ≢ r →
+        cond (nat_lt q n) (cond (nat_eq (base + r) (base + q)) (Open c.place) (register texts regs os (base + q))) (Val m.Nil) ≡ put (window texts regs os n base) r (Open c.place) q
     there t ne =
         ap (λ b. cond (nat_lt q n) (cond b (Open c.place) (register texts regs os (base + q))) (Val m.Nil)) (ne_eqb (base + r) (base + q) (λ e. ne (omega (arith, e))))
         ∙ sym (ap (λ b. cond b (Open c.place) (window texts regs os n base q)) t)
@@ -134,7 +138,9 @@ capture_new w code s r x replies f k e of low layout is room none =
 abbrev pub expected_in : ℕ → State → ℕ × State
 expected_in r s = (read_of 0 (λ i. first_cell (captured r i).taken) s, changed (λ i. (captured r i).inside) s)
 
-pub part_capture : (w : LibWorld) (code : Code) (s : StackView) (r : ℕ) (x : Focus) (replies : List Reply) (t : Three) → t ≡ opens.captured s w.arena w.owner (place_of s r) → HasCell t.2 t.0 → HasRegister s r → Layout s → IsMachine w s → seen w code x replies t ≡ expected_in r (part w code s x replies)
+pub part_capture : (w : LibWorld) (code : Code) (s : StackView) (r : ℕ) (x : Focus) (replies : List Reply) (t : Three) →
+    t ≡ opens.captured s w.arena w.owner (place_of s r) → HasCell t.2 t.0 → HasRegister s r → Layout s → IsMachine w s →
+    seen w code x replies t ≡ expected_in r (part w code s x replies)
 unfolding opens.captured part
 part_capture w code s r x replies t is_t has h layout is =
     let i = inner s (runs_with s r h) in
@@ -193,7 +199,8 @@ keeps_cells w s os of own is =
 abbrev pub ThreeSound : LibWorld → Three → Type 0
 ThreeSound w t = IsMachine (record w { arena = t.2 }) t.1 × IsCell w.owner t.2 t.0
 
-pub keeps_capture : (w : LibWorld) (s : StackView) (r : ℕ) (t : Three) → t ≡ opens.captured s w.arena w.owner (place_of s r) → HasCell t.2 t.0 → HasRegister s r → Layout s → IsMachine w s → ThreeSound w t
+pub keeps_capture : (w : LibWorld) (s : StackView) (r : ℕ) (t : Three) → t ≡ opens.captured s w.arena w.owner (place_of s r) → HasCell t.2 t.0 →
+    HasRegister s r → Layout s → IsMachine w s → ThreeSound w t
 unfolding opens.captured
 keeps_capture w s r t is_t has h layout is =
     let i = inner s (runs_with s r h) in
@@ -205,7 +212,9 @@ keeps_capture w s r t is_t has h layout is =
     new : ℕ → Three
     new k = (next_cell w.arena w.owner, record s { cells = opened k (next_cell w.arena w.owner) s.cells }, new_cell w.arena w.owner (register_at s k))
 
-    by : (k : ℕ) → IsOwnOf s.frames k → (q : Option CellId) → cell_on k s.cells ≡ q → HasCell (option_map_or (λ c. (c, s, w.arena)) q (new k)).2 (option_map_or (λ c. (c, s, w.arena)) q (new k)).0 → ThreeSound w (option_map_or (λ c. (c, s, w.arena)) q (new k))
+    by : (k : ℕ) → IsOwnOf s.frames k → (q : Option CellId) → cell_on k s.cells ≡ q →
+        HasCell (option_map_or (λ c. (c, s, w.arena)) q (new k)).2 (option_map_or (λ c. (c, s, w.arena)) q (new k)).0 →
+        ThreeSound w (option_map_or (λ c. (c, s, w.arena)) q (new k))
     by k own (Some c) on has = (is, found_of w.owner (cell_count w.owner w.arena) k c s.cells is.cells on)
     by k own None on has =
         let v : Value = register_at s k in
@@ -222,7 +231,9 @@ keeps_capture w s r t is_t has h layout is =
 
 -- ---- registers are closed
 
-own_close : (texts : List m.Bytes) (regs : List Value) (w : Owner) (os : List OpenCell) (cs : List m.Value) (n base r q : ℕ) → Distinct os → AreOf w (length cs) os → window texts regs (kept (base + r) os) n base q ≡ machine.closed (laid texts regs os cs) (window texts regs os n base) r q
+own_close : (texts : List m.Bytes) (regs : List Value) (w : Owner) (os : List OpenCell) (cs : List m.Value) (n base r q : ℕ) → Distinct os →
+    AreOf w (length cs) os →
+    window texts regs (kept (base + r) os) n base q ≡ machine.closed (laid texts regs os cs) (window texts regs os n base) r q
 own_close texts regs w os cs n base r q once of = by (nat_lt q n)
   where
     shifted : nat_lt (base + q) (base + r) ≡ nat_lt q r
@@ -232,17 +243,20 @@ own_close texts regs w os cs n base r q once of = by (nat_lt q n)
     both true = refl
     both false = refl
 
-    by : (b : Bool) → cond b (register texts regs (kept (base + r) os) (base + q)) (Val m.Nil) ≡ cond (nat_lt q r) (cond b (register texts regs os (base + q)) (Val m.Nil)) (Val (held (laid texts regs os cs) (cond b (register texts regs os (base + q)) (Val m.Nil))))
+    by : (b : Bool) →
+        cond b (register texts regs (kept (base + r) os) (base + q)) (Val m.Nil) ≡ cond (nat_lt q r) (cond b (register texts regs os (base + q)) (Val m.Nil)) (Val (held (laid texts regs os cs) (cond b (register texts regs os (base + q)) (Val m.Nil))))
     by true =
         register_kept texts regs w (base + r) (base + q) os cs once of
         ∙ ap (λ b. cond b (register texts regs os (base + q)) (Val (held (laid texts regs os cs) (register texts regs os (base + q))))) shifted
     by false = both (nat_lt q r)
 
-pub beside_closed : (w : LibWorld) (r : ℕ) (regs : List Value) (os : List OpenCell) (n : ℕ) → IsWorld w → AreOf w.owner n os → AllByRecursion (MayUseIn w) regs → Beside w (closed r regs os w.arena)
+pub beside_closed : (w : LibWorld) (r : ℕ) (regs : List Value) (os : List OpenCell) (n : ℕ) → IsWorld w → AreOf w.owner n os →
+    AllByRecursion (MayUseIn w) regs → Beside w (closed r regs os w.arena)
 beside_closed w r regs [] n is of may = beside_self w is
 beside_closed w r regs (o ∷ os) n is of may = by (nat_lt o.register r) (beside_closed w r regs os n is of.2 may)
   where
-    by : (b : Bool) → Beside w (closed r regs os w.arena) → Beside w (cond b (closed r regs os w.arena) (with_cell (closed r regs os w.arena) o.cell (get_or regs o.register value.Nil)))
+    by : (b : Bool) → Beside w (closed r regs os w.arena) →
+        Beside w (cond b (closed r regs os w.arena) (with_cell (closed r regs os w.arena) o.cell (get_or regs o.register value.Nil)))
     by true h = h
     by false h =
         let a : ArenaView = closed r regs os w.arena in
@@ -251,11 +265,13 @@ beside_closed w r regs (o ∷ os) n is of may = by (nat_lt o.register r) (beside
         beside_on w a (with_cell a o.cell v) h
         (beside_write (record w { arena = a }) o.cell v (beside_world w a is h) of.0 (usable_on w.names w.arena a w.owner v h.grows u))
 
-pub count_closed : (w : Owner) (n r : ℕ) (regs : List Value) (os : List OpenCell) (a : ArenaView) → AreOf w n os → cell_count w (closed r regs os a) ≡ cell_count w a
+pub count_closed : (w : Owner) (n r : ℕ) (regs : List Value) (os : List OpenCell) (a : ArenaView) → AreOf w n os →
+    cell_count w (closed r regs os a) ≡ cell_count w a
 count_closed w n r regs [] a of = refl
 count_closed w n r regs (o ∷ os) a of = by (nat_lt o.register r) (count_closed w n r regs os a of.2)
   where
-    by : (b : Bool) → cell_count w (closed r regs os a) ≡ cell_count w a → cell_count w (cond b (closed r regs os a) (with_cell (closed r regs os a) o.cell (get_or regs o.register value.Nil))) ≡ cell_count w a
+    by : (b : Bool) → cell_count w (closed r regs os a) ≡ cell_count w a →
+        cell_count w (cond b (closed r regs os a) (with_cell (closed r regs os a) o.cell (get_or regs o.register value.Nil))) ≡ cell_count w a
     by true ih = ih
     by false ih = count_written w (closed r regs os a) o.cell (get_or regs o.register value.Nil) of.0 ∙ ih
 

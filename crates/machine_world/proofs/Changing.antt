@@ -58,7 +58,8 @@ part_framed w code s f c place top kind x replies e of =
 
 -- ---- the place
 
-pub part_placed : (w : LibWorld) (code : Code) (s : StackView) (place : ℕ) (x : Focus) (replies : List Reply) → Runs s → part w code (opens.placed place s) x replies ≡ changed (placed place) (part w code s x replies)
+pub part_placed : (w : LibWorld) (code : Code) (s : StackView) (place : ℕ) (x : Focus) (replies : List Reply) → Runs s →
+    part w code (opens.placed place s) x replies ≡ changed (placed place) (part w code s x replies)
 unfolding part
 part_placed w code s place x replies runs =
     let i = inner s runs in
@@ -70,7 +71,8 @@ part_placed w code s place x replies runs =
 
 -- ---- a wait
 
-cut_by : (b : Bool) (n t base q : ℕ) (r : Register) → nat_lt q n ≡ b → cond (nat_lt q (max n (0 - base))) r (Val m.Nil) ≡ cond b (cond (nat_lt q (max n t)) r (Val m.Nil)) (cond (nat_lt q 0) (cond (nat_lt q (max n t)) r (Val m.Nil)) (Val m.Nil))
+cut_by : (b : Bool) (n t base q : ℕ) (r : Register) → nat_lt q n ≡ b →
+    cond (nat_lt q (max n (0 - base))) r (Val m.Nil) ≡ cond b (cond (nat_lt q (max n t)) r (Val m.Nil)) (cond (nat_lt q 0) (cond (nat_lt q (max n t)) r (Val m.Nil)) (Val m.Nil))
 cut_by true n t base q r e =
     let low : q < n = ltb-true q n e in
     ap (λ b. cond b r (Val m.Nil)) (lt-ltb q (max n (0 - base)) (omega (arith, low))) ∙ sym (ap (λ b. cond b r (Val m.Nil)) (lt-ltb q (max n t) (omega (arith, low))))
@@ -98,13 +100,16 @@ part_waits w code s kind x replies runs =
 
 -- ---- what goes on to hold
 
-own_changed : (fs : List Frame) (f g : Frame) (r : ℕ) → (f.base ≤ r → r < f.base + f.registers → (g.base ≤ r) × (r < g.base + g.registers)) → IsOwnOf (fs ++ f ∷ []) r → IsOwnOf (fs ++ g ∷ []) r
+own_changed : (fs : List Frame) (f g : Frame) (r : ℕ) → (f.base ≤ r → r < f.base + f.registers → (g.base ≤ r) × (r < g.base + g.registers)) →
+    IsOwnOf (fs ++ f ∷ []) r → IsOwnOf (fs ++ g ∷ []) r
 own_changed [] f g r of (first le lt) = let h = of le lt in first h.0 h.1
 own_changed [] f g r of (later is) = elim is [ ]
 own_changed (h ∷ fs) f g r of (first le lt) = first le lt
 own_changed (h ∷ fs) f g r of (later is) = later (own_changed fs f g r of is)
 
-are_own_changed : (fs : List Frame) (f g : Frame) (os : List OpenCell) → ((r : ℕ) → f.base ≤ r → r < f.base + f.registers → (g.base ≤ r) × (r < g.base + g.registers)) → AreOwn (fs ++ f ∷ []) os → AreOwn (fs ++ g ∷ []) os
+are_own_changed : (fs : List Frame) (f g : Frame) (os : List OpenCell) →
+    ((r : ℕ) → f.base ≤ r → r < f.base + f.registers → (g.base ≤ r) × (r < g.base + g.registers)) → AreOwn (fs ++ f ∷ []) os →
+    AreOwn (fs ++ g ∷ []) os
 are_own_changed fs f g [] of h = tt
 are_own_changed fs f g (o ∷ os) of h = (own_changed fs f g o.register (of o.register) h.0, are_own_changed fs f g os of h.1)
 
@@ -113,7 +118,8 @@ all_last P [] i x e h = absurd (cc)
 all_last P (y ∷ xs) zero x e h = let same : y ≡ x = cc in subst P same h.0
 all_last P (y ∷ xs) (suc i) x e h = all_last P xs i x e h.1
 
-keeps_framed : (w : LibWorld) (s : StackView) (f : Frame) (place top : ℕ) (kind : ReturnKind) → innermost s ≡ Some f → IsMachine w s → IsMachine w (framed s f place kind top)
+keeps_framed : (w : LibWorld) (s : StackView) (f : Frame) (place top : ℕ) (kind : ReturnKind) → innermost s ≡ Some f → IsMachine w s →
+    IsMachine w (framed s f place kind top)
 keeps_framed w s f place top kind e is =
     let g : Frame = record f { place = place; kind = kind } in
     record {

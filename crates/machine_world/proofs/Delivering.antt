@@ -66,15 +66,18 @@ bound_same n to q ne = ⊎_elim (λ lt. below lt) (λ le. above le) (cases_lt q 
     above : max n to ≤ q → nat_lt q (max n to) ≡ nat_lt q (max n (suc to))
     above le = le-ltb q (max n to) le ∙ sym (le-ltb q (max n (suc to)) (omega (arith, le, ne)))
 
-put_cut : (n to q : ℕ) (regs : Registers) (v : m.Value) → put (λ q. cond (nat_lt q (max n to)) (regs q) (Val m.Nil)) to (Val v) q ≡ cond (nat_lt q (max n (suc to))) (put regs to (Val v) q) (Val m.Nil)
+put_cut : (n to q : ℕ) (regs : Registers) (v : m.Value) →
+    put (λ q. cond (nat_lt q (max n to)) (regs q) (Val m.Nil)) to (Val v) q ≡ cond (nat_lt q (max n (suc to))) (put regs to (Val v) q) (Val m.Nil)
 put_cut n to q regs v = ⊎_elim (λ h. here h.0 h.1) (λ h. there h.0 h.1) (eqb_tells q to)
   where
-    here : nat_eq q to ≡ true → q ≡ to → put (λ q. cond (nat_lt q (max n to)) (regs q) (Val m.Nil)) to (Val v) q ≡ cond (nat_lt q (max n (suc to))) (put regs to (Val v) q) (Val m.Nil)
+    here : nat_eq q to ≡ true → q ≡ to →
+        put (λ q. cond (nat_lt q (max n to)) (regs q) (Val m.Nil)) to (Val v) q ≡ cond (nat_lt q (max n (suc to))) (put regs to (Val v) q) (Val m.Nil)
     here t e =
         ap (λ b. cond b (Val v) (cond (nat_lt q (max n to)) (regs q) (Val m.Nil))) t
         ∙ sym (ap (λ b. cond b (cond (nat_eq q to) (Val v) (regs q)) (Val m.Nil)) (lt-ltb q (max n (suc to)) (omega (arith, e))) ∙ ap (λ b. cond b (Val v) (regs q)) t)
 
-    there : nat_eq q to ≡ false → q ≢ to → put (λ q. cond (nat_lt q (max n to)) (regs q) (Val m.Nil)) to (Val v) q ≡ cond (nat_lt q (max n (suc to))) (put regs to (Val v) q) (Val m.Nil)
+    there : nat_eq q to ≡ false → q ≢ to →
+        put (λ q. cond (nat_lt q (max n to)) (regs q) (Val m.Nil)) to (Val v) q ≡ cond (nat_lt q (max n (suc to))) (put regs to (Val v) q) (Val m.Nil)
     there t ne =
         ap (λ b. cond b (Val v) (cond (nat_lt q (max n to)) (regs q) (Val m.Nil))) t
         ∙ ap (λ b. cond b (regs q) (Val m.Nil)) (bound_same n to q ne)
@@ -85,7 +88,8 @@ set_plain : (top to : ℕ) (u v : m.Value) (i : Inside) → write (Val u) to v (
 set_plain top to u v i =
     ap (λ rs. record i { frame = record i.frame { registers = rs; top = top } }) (fun_ext (λ q. put_cut i.frame.size to q i.frame.registers v))
 
-set_own : (top to : ℕ) (v : m.Value) (i : Inside) (reg : Register) → to < i.frame.size → write reg to v (cut_in top to i) ≡ cut_in top (suc to) (write reg to v i)
+set_own : (top to : ℕ) (v : m.Value) (i : Inside) (reg : Register) → to < i.frame.size →
+    write reg to v (cut_in top to i) ≡ cut_in top (suc to) (write reg to v i)
 set_own top to v i (Val u) low = set_plain top to u v i
 set_own top to v i (Open c) low =
     let same : max i.frame.size to ≡ max i.frame.size (suc to) = omega (arith, low) in
@@ -113,7 +117,8 @@ trim_by false n to q r e =
     ⊎_elim (λ lt. ap (λ b. cond b r (Val m.Nil)) (lt-ltb q (max n to) (omega (arith, lt)) ∙ sym (lt-ltb q to lt)))
     (λ le. ap (λ b. cond b r (Val m.Nil)) (le-ltb q (max n to) (omega (arith, le, high)) ∙ sym (le-ltb q to le))) (cases_lt q to)
 
-commute : (to top : ℕ) (vs : List m.Value) (i : Inside) → top ≡ to + length vs → IsPlain i.frame → set_all to vs (cut_in top to i) ≡ ended_in top (set_all to vs i)
+commute : (to top : ℕ) (vs : List m.Value) (i : Inside) → top ≡ to + length vs → IsPlain i.frame →
+    set_all to vs (cut_in top to i) ≡ ended_in top (set_all to vs i)
 commute to top [] i e plain =
     let same : to ≡ top = omega (arith, e) in
     ap (λ rs. record i { frame = record i.frame { registers = rs; top = top } })
@@ -201,7 +206,8 @@ room_behind end more i regs le high =
     ∙ given_get [] more (i - end)
 
 -- values over it are as over the registers alone
-room_overlaid : (end at : ℕ) (regs vs : List Value) → end ≤ length regs → at ≤ end → overlaid (room end (at + length vs - end) regs) at vs ≡ overlaid (take end regs) at vs
+room_overlaid : (end at : ℕ) (regs vs : List Value) → end ≤ length regs → at ≤ end →
+    overlaid (room end (at + length vs - end) regs) at vs ≡ overlaid (take end regs) at vs
 room_overlaid end at regs vs le high =
     let more : ℕ = at + length vs - end in
     let low : List Value = take end regs in
@@ -211,7 +217,9 @@ room_overlaid end at regs vs le high =
     ap (λ l. l ++ vs ++ drop (at + length vs) (low ++ nils)) (take-append-le at low nils (omega (arith, long, high)))
     ∙ ap (λ l. take at low ++ vs ++ l) (rest low nils long all refl (cases_lt (at + length vs) end))
   where
-    rest : (low nils : List Value) → length low ≡ end → length (low ++ nils) ≡ end + (at + length vs - end) → nils ≡ replicate (at + length vs - end) value.Nil → ((at + length vs < end) ⊎ (end ≤ at + length vs)) → drop (at + length vs) (low ++ nils) ≡ drop (at + length vs) low
+    rest : (low nils : List Value) → length low ≡ end → length (low ++ nils) ≡ end + (at + length vs - end) →
+        nils ≡ replicate (at + length vs - end) value.Nil → ((at + length vs < end) ⊎ (end ≤ at + length vs)) →
+        drop (at + length vs) (low ++ nils) ≡ drop (at + length vs) low
     rest low nils long all is (inl lt) =
         let none : at + length vs - end ≡ 0 = omega (arith, lt) in
         ap (λ l. drop (at + length vs) (low ++ l)) (is ∙ ap (λ n. replicate n value.Nil) none) ∙ ap (λ l. drop (at + length vs) l) (append-nil low)
@@ -224,7 +232,10 @@ abbrev cutting : StackView → Frame → (to n : ℕ) → StackView
 cutting s f to n =
     record s { registers = room (f.base + f.registers) (f.base + to + n - (f.base + f.registers)) s.registers; top = f.base + to + n }
 
-cut_window : (b : Bool) (w : LibWorld) (s : StackView) (f : Frame) (to n q : ℕ) → nat_lt q f.registers ≡ b → f.base + f.registers ≤ length s.registers → to ≤ f.registers → cell_on (f.base + q) s.cells ≡ cell_on (f.base + q) s.cells → (f.registers ≤ q → cell_on (f.base + q) s.cells ≡ None) → window w.names (room (f.base + f.registers) (f.base + to + n - (f.base + f.registers)) s.registers) s.cells (max f.registers (f.base + to + n - f.base)) f.base q ≡ cond (nat_lt q (max f.registers to)) (window w.names s.registers s.cells (max f.registers (s.top - f.base)) f.base q) (Val m.Nil)
+cut_window : (b : Bool) (w : LibWorld) (s : StackView) (f : Frame) (to n q : ℕ) → nat_lt q f.registers ≡ b →
+    f.base + f.registers ≤ length s.registers → to ≤ f.registers → cell_on (f.base + q) s.cells ≡ cell_on (f.base + q) s.cells →
+    (f.registers ≤ q → cell_on (f.base + q) s.cells ≡ None) →
+    window w.names (room (f.base + f.registers) (f.base + to + n - (f.base + f.registers)) s.registers) s.cells (max f.registers (f.base + to + n - f.base)) f.base q ≡ cond (nat_lt q (max f.registers to)) (window w.names s.registers s.cells (max f.registers (s.top - f.base)) f.base q) (Val m.Nil)
 cut_window true w s f to n q e high le same none =
     let low : q < f.registers = ltb-true q f.registers e in
     let end : ℕ = f.base + f.registers in
@@ -253,7 +264,9 @@ cut_window false w s f to n q e high le same none =
 end_is : (s : StackView) (f : Frame) → innermost s ≡ Some f → end_of s ≡ f.base + f.registers
 end_is s f e = ap end_in e
 
-part_cut : (w : LibWorld) (code : Code) (s : StackView) (f : Frame) (c : ClosureId) (to n : ℕ) (x : Focus) (replies : List Reply) → innermost s ≡ Some f → f.closure ≡ Some c → to ≤ f.registers → Layout s → IsMachine w s → part w code (cutting s f to n) x replies ≡ changed (cut_in (to + n) to) (part w code s x replies)
+part_cut : (w : LibWorld) (code : Code) (s : StackView) (f : Frame) (c : ClosureId) (to n : ℕ) (x : Focus) (replies : List Reply) →
+    innermost s ≡ Some f → f.closure ≡ Some c → to ≤ f.registers → Layout s → IsMachine w s →
+    part w code (cutting s f to n) x replies ≡ changed (cut_in (to + n) to) (part w code s x replies)
 unfolding part cells_of
 part_cut w code s f c to n x replies e of le layout is =
     let end : ℕ = f.base + f.registers in
@@ -279,18 +292,22 @@ part_cut w code s f c to n x replies e of le layout is =
     ∙ sym (ap (λ fs. changed_in (cut_in (to + n) to) x fs (world_with w code s.frames replies cells)) (functions_split w.names cs s f c e of))
 
 -- no register of the function that runs is open beyond its own
-run_plain : (w : LibWorld) (s : StackView) (f : Frame) (c : ClosureId) → innermost s ≡ Some f → Layout s → IsMachine w s → IsPlain (running w.names (objects_of w.arena w.owner).closures s c f)
+run_plain : (w : LibWorld) (s : StackView) (f : Frame) (c : ClosureId) → innermost s ≡ Some f → Layout s → IsMachine w s →
+    IsPlain (running w.names (objects_of w.arena w.owner).closures s c f)
 run_plain w s f c e layout is = λ q le.
     let below : AreBelow (f.base + f.registers) s.frames = subst (λ k. AreBelow k s.frames) (end_is s f e) (below_end s layout) in
     by q (nat_lt q (max f.registers (s.top - f.base))) (none_above (f.base + f.registers) (f.base + q) s.frames s.cells below is.own (omega (arith, le)))
   where
-    by : (q : ℕ) (b : Bool) → cell_on (f.base + q) s.cells ≡ None → (u : m.Value) × (cond b (register w.names s.registers s.cells (f.base + q)) (Val m.Nil) ≡ Val u)
+    by : (q : ℕ) (b : Bool) → cell_on (f.base + q) s.cells ≡ None →
+        (u : m.Value) × (cond b (register w.names s.registers s.cells (f.base + q)) (Val m.Nil) ≡ Val u)
     by q true none = (meant w.names (get_or s.registers (f.base + q) value.Nil), ap (shown w.names s.registers (f.base + q)) none)
     by q false none = (m.Nil, refl)
 
 -- ---- values are delivered
 
-part_ended : (w : LibWorld) (code : Code) (s : StackView) (f : Frame) (c : ClosureId) (to : ℕ) (vs : List m.Value) (x : Focus) (replies : List Reply) → innermost s ≡ Some f → f.closure ≡ Some c → Layout s → IsMachine w s → changed (λ i. set_all to vs (cut_in (to + length vs) to i)) (part w code s x replies) ≡ changed (parts.delivered to vs) (part w code s x replies)
+part_ended : (w : LibWorld) (code : Code) (s : StackView) (f : Frame) (c : ClosureId) (to : ℕ) (vs : List m.Value) (x : Focus) (replies : List Reply) →
+    innermost s ≡ Some f → f.closure ≡ Some c → Layout s → IsMachine w s →
+    changed (λ i. set_all to vs (cut_in (to + length vs) to i)) (part w code s x replies) ≡ changed (parts.delivered to vs) (part w code s x replies)
 unfolding part
 part_ended w code s f c to vs x replies e of layout is =
     let cs : List Closure = (objects_of w.arena w.owner).closures in
@@ -319,7 +336,9 @@ place_some to (Some f) h = h.1
 pub has_place : (s : StackView) (to : ℕ) → HasPlaceOf s to → HasPlace s to
 has_place s to h = place_some to (innermost s) h
 
-pub part_delivered : (w : LibWorld) (code : Code) (s : StackView) (to : ℕ) (vs : List Value) (x : Focus) (replies : List Reply) → HasPlaceOf s to → Layout s → IsMachine w s → AllByRecursion (MayUseIn w) vs → part w code (delivered to vs s) x replies ≡ changed (parts.delivered to (map (meant w.names) vs)) (part w code s x replies)
+pub part_delivered : (w : LibWorld) (code : Code) (s : StackView) (to : ℕ) (vs : List Value) (x : Focus) (replies : List Reply) → HasPlaceOf s to →
+    Layout s → IsMachine w s → AllByRecursion (MayUseIn w) vs →
+    part w code (delivered to vs s) x replies ≡ changed (parts.delivered to (map (meant w.names) vs)) (part w code s x replies)
 unfolding delivered
 part_delivered w code s to vs x replies h layout is may =
     let i = inner s (runs_place s to h) in
@@ -351,7 +370,8 @@ all_drop P zero xs h = h
 all_drop P (suc n) [] h = tt
 all_drop P (suc n) (x ∷ xs) h = all_drop P n xs h.1
 
-pub keeps_delivered : (w : LibWorld) (s : StackView) (to : ℕ) (vs : List Value) → AllByRecursion (MayUseIn w) vs → IsMachine w s → IsMachine w (delivered to vs s)
+pub keeps_delivered : (w : LibWorld) (s : StackView) (to : ℕ) (vs : List Value) → AllByRecursion (MayUseIn w) vs → IsMachine w s →
+    IsMachine w (delivered to vs s)
 unfolding delivered
 keeps_delivered w s to vs may is =
     let low : List Value = take (end_of s) s.registers in

@@ -53,7 +53,8 @@ runs_with s r h = runs_some r (innermost s) h
 pub has_low : (s : StackView) (r : ℕ) (f : Frame) → innermost s ≡ Some f → HasRegister s r → r < f.registers
 has_low s r f e h = (of_frame s (λ f. IsLuau f × (r < f.registers)) f e h).1
 
-pub functions_split : (texts : List m.Bytes) (cs : List Closure) (s : StackView) (f : Frame) (c : ClosureId) → innermost s ≡ Some f → f.closure ≡ Some c → functions_of texts cs s ≡ running texts cs s c f ∷ waiting texts cs s.registers s.cells (reverse (outer s))
+pub functions_split : (texts : List m.Bytes) (cs : List Closure) (s : StackView) (f : Frame) (c : ClosureId) → innermost s ≡ Some f →
+    f.closure ≡ Some c → functions_of texts cs s ≡ running texts cs s c f ∷ waiting texts cs s.registers s.cells (reverse (outer s))
 unfolding functions_of
 functions_split texts cs s f c e k =
     ap (λ q. option_map_or (λ f. with_function f.closure (λ c. running texts cs s c f) (waiting texts cs s.registers s.cells (reverse (outer s)))) q []) e
@@ -75,7 +76,8 @@ lies s f e layout =
     }
 
 -- a register of it
-pub register_here : (texts : List m.Bytes) (cs : List Closure) (s : StackView) (r : ℕ) (f : Frame) (c : ClosureId) → r < max f.registers (s.top - f.base) → (running texts cs s c f).registers r ≡ register texts s.registers s.cells (f.base + r)
+pub register_here : (texts : List m.Bytes) (cs : List Closure) (s : StackView) (r : ℕ) (f : Frame) (c : ClosureId) →
+    r < max f.registers (s.top - f.base) → (running texts cs s c f).registers r ≡ register texts s.registers s.cells (f.base + r)
 register_here texts cs s r f c low =
     ap (λ b. cond b (register texts s.registers s.cells (f.base + r)) (Val m.Nil)) (lt-ltb r (max f.registers (s.top - f.base)) low)
 
@@ -93,25 +95,32 @@ pub extra_below : (m b n : ℕ) (regs regs' : List Value) → b ≤ n → take n
 extra_below m b n regs regs' le same =
     ap (λ l. drop m l) (sym (take-take b n regs' le) ∙ ap (λ l. take b l) same ∙ take-take b n regs le)
 
-register_by : (b : Bool) (texts : List m.Bytes) (regs regs' : List Value) (os os' : List OpenCell) (g : Frame) (n q : ℕ) → nat_lt q g.registers ≡ b → ((q : ℕ) → q < n → register texts regs' os' q ≡ register texts regs os q) → g.base + g.registers ≤ n → cond b (register texts regs' os' (g.base + q)) (Val m.Nil) ≡ cond b (register texts regs os (g.base + q)) (Val m.Nil)
+register_by : (b : Bool) (texts : List m.Bytes) (regs regs' : List Value) (os os' : List OpenCell) (g : Frame) (n q : ℕ) → nat_lt q g.registers ≡ b →
+    ((q : ℕ) → q < n → register texts regs' os' q ≡ register texts regs os q) → g.base + g.registers ≤ n →
+    cond b (register texts regs' os' (g.base + q)) (Val m.Nil) ≡ cond b (register texts regs os (g.base + q)) (Val m.Nil)
 register_by true texts regs regs' os os' g n q t same le =
     let low : q < g.registers = ltb-true q g.registers t in
     same (g.base + q) (omega (arith, low, le))
 register_by false texts regs regs' os os' g n q t same le = refl
 
 -- one that waits
-one_waits : (texts : List m.Bytes) (cs : List Closure) (regs regs' : List Value) (os os' : List OpenCell) (n : ℕ) (g : Frame) (c : ClosureId) → ((q : ℕ) → q < n → register texts regs' os' q ≡ register texts regs os q) → take n regs' ≡ take n regs → g.base + g.registers ≤ n → function_of texts cs regs' os' g.registers 0 c g ≡ function_of texts cs regs os g.registers 0 c g
+one_waits : (texts : List m.Bytes) (cs : List Closure) (regs regs' : List Value) (os os' : List OpenCell) (n : ℕ) (g : Frame) (c : ClosureId) →
+    ((q : ℕ) → q < n → register texts regs' os' q ≡ register texts regs os q) → take n regs' ≡ take n regs → g.base + g.registers ≤ n →
+    function_of texts cs regs' os' g.registers 0 c g ≡ function_of texts cs regs os g.registers 0 c g
 one_waits texts cs regs regs' os os' n g c same front le =
     ap (λ rs. record (function_of texts cs regs' os' g.registers 0 c g) { registers = rs })
     (fun_ext (λ q. register_by (nat_lt q g.registers) texts regs regs' os os' g n q refl same le))
     ∙ ap (λ vs. record (function_of texts cs regs os g.registers 0 c g) { varargs = map (meant texts) vs }) (extra_below (g.base - g.extra) g.base n regs regs' (omega (arith, le)) front)
 
-pub with_same : (q : Option ClosureId) (f g : ClosureId → machine.Frame) (fs gs : List machine.Frame) → ((c : ClosureId) → f c ≡ g c) → fs ≡ gs → with_function q f fs ≡ with_function q g gs
+pub with_same : (q : Option ClosureId) (f g : ClosureId → machine.Frame) (fs gs : List machine.Frame) → ((c : ClosureId) → f c ≡ g c) → fs ≡ gs →
+    with_function q f fs ≡ with_function q g gs
 with_same None f g fs gs same e = e
 with_same (Some c) f g fs gs same e = ap (λ x. x ∷ fs) (same c) ∙ ap (λ l. g c ∷ l) e
 
 -- what lies below does not change
-pub waiting_same : (texts : List m.Bytes) (cs : List Closure) (regs regs' : List Value) (os os' : List OpenCell) (n : ℕ) (gs : List Frame) → ((q : ℕ) → q < n → register texts regs' os' q ≡ register texts regs os q) → take n regs' ≡ take n regs → AreBelow n gs → waiting texts cs regs' os' gs ≡ waiting texts cs regs os gs
+pub waiting_same : (texts : List m.Bytes) (cs : List Closure) (regs regs' : List Value) (os os' : List OpenCell) (n : ℕ) (gs : List Frame) →
+    ((q : ℕ) → q < n → register texts regs' os' q ≡ register texts regs os q) → take n regs' ≡ take n regs → AreBelow n gs →
+    waiting texts cs regs' os' gs ≡ waiting texts cs regs os gs
 waiting_same texts cs regs regs' os os' n [] same front below = refl
 waiting_same texts cs regs regs' os os' n (g ∷ gs) same front below =
     with_same g.closure (λ c. function_of texts cs regs' os' g.registers 0 c g) (λ c. function_of texts cs regs os g.registers 0 c g) (waiting texts cs regs' os' gs) (waiting texts cs regs os gs)
@@ -178,7 +187,9 @@ one_same texts cs regs k v os width top c g same out =
     (fun_ext (λ q. ap (λ x. cond (nat_lt q width) x (Val m.Nil)) (same (g.base + q))))
     ∙ ap (λ vs. record (function_of texts cs regs os width top c g) { varargs = map (meant texts) vs }) (extra_outside (g.base - g.extra) g.base k v regs out)
 
-waiting_all : (texts : List m.Bytes) (cs : List Closure) (regs : List Value) (k : ℕ) (v : Value) (os : List OpenCell) (gs : List Frame) → ((q : ℕ) → register texts (set regs k v) os q ≡ register texts regs os q) → AreOutside k gs → waiting texts cs (set regs k v) os gs ≡ waiting texts cs regs os gs
+waiting_all : (texts : List m.Bytes) (cs : List Closure) (regs : List Value) (k : ℕ) (v : Value) (os : List OpenCell) (gs : List Frame) →
+    ((q : ℕ) → register texts (set regs k v) os q ≡ register texts regs os q) → AreOutside k gs →
+    waiting texts cs (set regs k v) os gs ≡ waiting texts cs regs os gs
 waiting_all texts cs regs k v os [] same out = refl
 waiting_all texts cs regs k v os (g ∷ gs) same out =
     with_same g.closure (λ c. function_of texts cs (set regs k v) os g.registers 0 c g) (λ c. function_of texts cs regs os g.registers 0 c g) (waiting texts cs (set regs k v) os gs) (waiting texts cs regs os gs)

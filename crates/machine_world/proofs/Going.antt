@@ -37,7 +37,10 @@ pub goes_same : (s s' : StackView) → s'.frames ≡ s.frames → GoesOn s → G
 goes_same s s' e h = subst (λ (fs : List Frame). GoesOn (record s' { frames = fs })) (sym e) h
 
 -- the code goes on behind a change that leaves what the function waits for
-pub row_goes : (w w' : LibWorld) (code : Code) (s s1 s2 : StackView) (row : Row) (g : Inside → Inside) (next : ℕ) → ((f : machine.Frame) (fs : List machine.Frame) (v : machine.World) → row f fs v ≡ on (go next) (g (inside f v)) fs) → ((i : Inside) → (g i).frame.purpose ≡ i.frame.purpose) → Becomes (changed g) w code s w' s1 → Becomes (changed (placed next)) w' code s1 w' s2 → GoesOn s → Makes row w code s w' s2
+pub row_goes : (w w' : LibWorld) (code : Code) (s s1 s2 : StackView) (row : Row) (g : Inside → Inside) (next : ℕ) →
+    ((f : machine.Frame) (fs : List machine.Frame) (v : machine.World) → row f fs v ≡ on (go next) (g (inside f v)) fs) →
+    ((i : Inside) → (g i).frame.purpose ≡ i.frame.purpose) → Becomes (changed g) w code s w' s1 → Becomes (changed (placed next)) w' code s1 w' s2 →
+    GoesOn s → Makes row w code s w' s2
 unfolding part
 row_goes w w' code s s1 s2 row g next is keeps one two on_it = λ replies.
     let i = inner s (runs_on s on_it) in
@@ -64,12 +67,17 @@ set_keeps r v i = by (i.frame.registers r)
     by (Open c) = refl
 
 -- a value is given to a register
-pub give_makes : (w : LibWorld) (code code' : Code) (s s1 s2 : StackView) (to next : ℕ) (v : m.Value) → code' ≡ code → Becomes (changed (machine.set to v)) w code s w s1 → Becomes (changed (placed next)) w code' s1 w s2 → GoesOn s → Makes (give to v next) w code s w s2
+pub give_makes : (w : LibWorld) (code code' : Code) (s s1 s2 : StackView) (to next : ℕ) (v : m.Value) → code' ≡ code →
+    Becomes (changed (machine.set to v)) w code s w s1 → Becomes (changed (placed next)) w code' s1 w s2 → GoesOn s →
+    Makes (give to v next) w code s w s2
 give_makes w code code' s s1 s2 to next v e one two h =
     row_goes w w code s s1 s2 (give to v next) (machine.set to v) next (λ f fs v. refl) (set_keeps to v) one (subst (λ c. Becomes (changed (placed next)) w c s1 w s2) e two) h
 
 -- a row that gives a register what is read of the function that runs
-pub read_makes : (w w' : LibWorld) (code : Code) (s s' : StackView) (r : Row) (to next : ℕ) (v : m.Value) (read : Inside → m.Value) → Makes (give to v next) w code s w' s' → ((f : machine.Frame) (fs : List machine.Frame) (u : machine.World) → r f fs u ≡ give to (read (inside f u)) next f fs u) → ((x : Focus) (replies : List Reply) → v ≡ read_of m.Nil read (part w code s x replies)) → GoesOn s → Makes r w code s w' s'
+pub read_makes : (w w' : LibWorld) (code : Code) (s s' : StackView) (r : Row) (to next : ℕ) (v : m.Value) (read : Inside → m.Value) →
+    Makes (give to v next) w code s w' s' →
+    ((f : machine.Frame) (fs : List machine.Frame) (u : machine.World) → r f fs u ≡ give to (read (inside f u)) next f fs u) →
+    ((x : Focus) (replies : List Reply) → v ≡ read_of m.Nil read (part w code s x replies)) → GoesOn s → Makes r w code s w' s'
 unfolding part
 read_makes w w' code s s' r to next v read makes is same h = λ replies.
     let i = inner s (runs_on s h) in
@@ -86,7 +94,8 @@ read_makes w w' code s s' r to next v read makes is same h = λ replies.
     ∙ makes replies
 
 -- a row that gives a register a value that is known
-pub known_makes : (w w' : LibWorld) (code : Code) (s s' : StackView) (r : Row) (to next : ℕ) (u v : m.Value) → Makes (give to u next) w code s w' s' → u ≡ v → ((f : machine.Frame) (fs : List machine.Frame) (x : machine.World) → r f fs x ≡ give to v next f fs x) → GoesOn s → Makes r w code s w' s'
+pub known_makes : (w w' : LibWorld) (code : Code) (s s' : StackView) (r : Row) (to next : ℕ) (u v : m.Value) → Makes (give to u next) w code s w' s' →
+    u ≡ v → ((f : machine.Frame) (fs : List machine.Frame) (x : machine.World) → r f fs x ≡ give to v next f fs x) → GoesOn s → Makes r w code s w' s'
 unfolding part
 known_makes w w' code s s' r to next u v makes e is h = λ replies.
     let i = inner s (runs_on s h) in
@@ -102,7 +111,9 @@ known_makes w w' code s s' r to next u v makes e is h = λ replies.
     ∙ makes replies
 
 -- a change by a value that is read is that change by what is read
-pub read_becomes : (w w' : LibWorld) (code : Code) (s s' : StackView) (change : m.Value → Inside → Inside) (read : Inside → m.Value) (v : m.Value) → Becomes (changed (change v)) w code s w' s' → ((x : Focus) (replies : List Reply) → v ≡ read_of m.Nil read (part w code s x replies)) → GoesOn s → Becomes (changed (λ i. change (read i) i)) w code s w' s'
+pub read_becomes : (w w' : LibWorld) (code : Code) (s s' : StackView) (change : m.Value → Inside → Inside) (read : Inside → m.Value) (v : m.Value) →
+    Becomes (changed (change v)) w code s w' s' → ((x : Focus) (replies : List Reply) → v ≡ read_of m.Nil read (part w code s x replies)) → GoesOn s →
+    Becomes (changed (λ i. change (read i) i)) w code s w' s'
 unfolding part
 read_becomes w w' code s s' change read v becomes same h = λ x replies.
     let i = inner s (runs_on s h) in
@@ -134,7 +145,11 @@ read_through w code s x replies g read v e h =
 -- ---- calls and returns
 
 -- a call waits, with what is called and its arguments
-pub call_makes : (w : LibWorld) (code : Code) (s s' : StackView) (base arguments results next : ℕ) (callee : m.Value) (args : List m.Value) → ((x : Focus) (replies : List Reply) → callee ≡ read_of m.Nil (register_value base) (part w code s x replies)) → ((x : Focus) (replies : List Reply) → args ≡ read_of [] (list_of arguments (base + 1)) (part w code s x replies)) → Becomes (changed (waits (machine.Results base results next))) w code s w s' → GoesOn s → MakesTo (call base arguments results next) w code s (machine.Invoke ByScript callee args) w s'
+pub call_makes : (w : LibWorld) (code : Code) (s s' : StackView) (base arguments results next : ℕ) (callee : m.Value) (args : List m.Value) →
+    ((x : Focus) (replies : List Reply) → callee ≡ read_of m.Nil (register_value base) (part w code s x replies)) →
+    ((x : Focus) (replies : List Reply) → args ≡ read_of [] (list_of arguments (base + 1)) (part w code s x replies)) →
+    Becomes (changed (waits (machine.Results base results next))) w code s w s' → GoesOn s →
+    MakesTo (call base arguments results next) w code s (machine.Invoke ByScript callee args) w s'
 unfolding part
 call_makes w code s s' base arguments results next callee args is_callee is_args becomes h = λ replies.
     let i = inner s (runs_on s h) in
@@ -152,7 +167,10 @@ call_makes w code s s' base arguments results next callee args is_callee is_args
     ∙ sym (ap (λ t. Goes [] t) (becomes (machine.Invoke ByScript callee args) replies ∙ ap (λ fs. changed_in (waits (machine.Results base results next)) (machine.Invoke ByScript callee args) fs world) split))
 
 -- a function is left with values
-pub return_makes : (w w' : LibWorld) (code : Code) (s s' : StackView) (r : Row) (base count : ℕ) (vs : List m.Value) → ((f : machine.Frame) (fs : List machine.Frame) (u : machine.World) → r f fs u ≡ hand_back (list_from count base f u) fs u) → ((x : Focus) (replies : List Reply) → vs ≡ read_of [] (list_of count base) (part w code s x replies)) → Becomes left w code s w' s' → GoesOn s → MakesTo r w code s (machine.Hand vs) w' s'
+pub return_makes : (w w' : LibWorld) (code : Code) (s s' : StackView) (r : Row) (base count : ℕ) (vs : List m.Value) →
+    ((f : machine.Frame) (fs : List machine.Frame) (u : machine.World) → r f fs u ≡ hand_back (list_from count base f u) fs u) →
+    ((x : Focus) (replies : List Reply) → vs ≡ read_of [] (list_of count base) (part w code s x replies)) → Becomes left w code s w' s' → GoesOn s →
+    MakesTo r w code s (machine.Hand vs) w' s'
 unfolding part
 return_makes w w' code s s' r base count vs is is_vs becomes h = λ replies.
     let i = inner s (runs_on s h) in

@@ -98,7 +98,8 @@ found_of u n k c (o ∷ os) h e =
     (λ (f : FirstIsNot k o os (Some c)). found_of u n k c os h.2 f.found) (at_first k o os (Some c) e)
 
 -- the cell of an open register holds the register's value
-pub laid_on : (texts : List m.Bytes) (regs : List Value) (u : Owner) (k : ℕ) (c : CellId) (os : List OpenCell) (cs : List m.Value) → Distinct os → AreOf u (length cs) os → cell_on k os ≡ Some c → get_or (laid texts regs os cs) c.place m.Nil ≡ meant texts (get_or regs k value.Nil)
+pub laid_on : (texts : List m.Bytes) (regs : List Value) (u : Owner) (k : ℕ) (c : CellId) (os : List OpenCell) (cs : List m.Value) → Distinct os →
+    AreOf u (length cs) os → cell_on k os ≡ Some c → get_or (laid texts regs os cs) c.place m.Nil ≡ meant texts (get_or regs k value.Nil)
 laid_on texts regs u k c [] cs once of e = absurd (cc)
 laid_on texts regs u k c (o ∷ os) cs once of e =
     ⊎_elim yes (λ n. no n (laid_on texts regs u k c os cs once.1 of.2 n.found)) (at_first k o os (Some c) e)
@@ -110,7 +111,8 @@ laid_on texts regs u k c (o ∷ os) cs once of e =
         ∙ get_or-set_same (laid texts regs os cs) o.cell.place (meant texts (get_or regs o.register value.Nil)) m.Nil (omega (arith, of.1, long))
         ∙ ap (λ k. meant texts (get_or regs k value.Nil)) y.is
 
-    no : FirstIsNot k o os (Some c) → get_or (laid texts regs os cs) c.place m.Nil ≡ meant texts (get_or regs k value.Nil) → get_or (laid texts regs (o ∷ os) cs) c.place m.Nil ≡ meant texts (get_or regs k value.Nil)
+    no : FirstIsNot k o os (Some c) → get_or (laid texts regs os cs) c.place m.Nil ≡ meant texts (get_or regs k value.Nil) →
+        get_or (laid texts regs (o ∷ os) cs) c.place m.Nil ≡ meant texts (get_or regs k value.Nil)
     no n ih =
         get_or-set_other (laid texts regs os cs) o.cell.place c.place (meant texts (get_or regs o.register value.Nil)) m.Nil (λ e. other_found o.cell.place k c os once.0 n.found (sym e))
         ∙ ih
@@ -118,7 +120,8 @@ laid_on texts regs u k c (o ∷ os) cs once of e =
 -- ---- a write of a register
 
 -- that is not open
-pub laid_beside : (texts : List m.Bytes) (regs : List Value) (k : ℕ) (v : Value) (os : List OpenCell) (cs : List m.Value) → cell_on k os ≡ None → laid texts (set regs k v) os cs ≡ laid texts regs os cs
+pub laid_beside : (texts : List m.Bytes) (regs : List Value) (k : ℕ) (v : Value) (os : List OpenCell) (cs : List m.Value) → cell_on k os ≡ None →
+    laid texts (set regs k v) os cs ≡ laid texts regs os cs
 laid_beside texts regs k v [] cs e = refl
 laid_beside texts regs k v (o ∷ os) cs e =
     ⊎_elim (λ (y : FirstIs k o os None). absurd (none y.found)) (λ n. no n (laid_beside texts regs k v os cs n.found)) (at_first k o os None e)
@@ -126,13 +129,16 @@ laid_beside texts regs k v (o ∷ os) cs e =
     none : Some o.cell ≡ None → ⊥
     none e = absurd (cc)
 
-    no : FirstIsNot k o os None → laid texts (set regs k v) os cs ≡ laid texts regs os cs → laid texts (set regs k v) (o ∷ os) cs ≡ laid texts regs (o ∷ os) cs
+    no : FirstIsNot k o os None → laid texts (set regs k v) os cs ≡ laid texts regs os cs →
+        laid texts (set regs k v) (o ∷ os) cs ≡ laid texts regs (o ∷ os) cs
     no n ih =
         ap (λ l. set l o.cell.place (meant texts (get_or (set regs k v) o.register value.Nil))) ih
         ∙ ap (λ w. set (laid texts regs os cs) o.cell.place (meant texts w)) (get_or-set_other regs k o.register v value.Nil n.is_not)
 
 -- that is open: its cell is written
-pub laid_open : (texts : List m.Bytes) (regs : List Value) (k first : ℕ) (v : Value) (c : CellId) (os : List OpenCell) (cs : List m.Value) → Rises first (length regs) os → Distinct os → cell_on k os ≡ Some c → laid texts (set regs k v) os cs ≡ set (laid texts regs os cs) c.place (meant texts v)
+pub laid_open : (texts : List m.Bytes) (regs : List Value) (k first : ℕ) (v : Value) (c : CellId) (os : List OpenCell) (cs : List m.Value) →
+    Rises first (length regs) os → Distinct os → cell_on k os ≡ Some c →
+    laid texts (set regs k v) os cs ≡ set (laid texts regs os cs) c.place (meant texts v)
 laid_open texts regs k first v c [] cs rises once e = absurd (cc)
 laid_open texts regs k first v c (o ∷ os) cs rises once e =
     ⊎_elim yes (λ n. no n (laid_open texts regs k (o.register + 1) v c os cs rises.2 once.1 n.found)) (at_first k o os (Some c) e)
@@ -146,7 +152,8 @@ laid_open texts regs k first v c (o ∷ os) cs rises once e =
         ∙ sym (set-set (laid texts regs os cs) o.cell.place (meant texts (get_or regs o.register value.Nil)) (meant texts v))
         ∙ ap (λ (c : CellId). set (laid texts regs (o ∷ os) cs) c.place (meant texts v)) (some_cell o.cell c y.found)
 
-    no : FirstIsNot k o os (Some c) → laid texts (set regs k v) os cs ≡ set (laid texts regs os cs) c.place (meant texts v) → laid texts (set regs k v) (o ∷ os) cs ≡ set (laid texts regs (o ∷ os) cs) c.place (meant texts v)
+    no : FirstIsNot k o os (Some c) → laid texts (set regs k v) os cs ≡ set (laid texts regs os cs) c.place (meant texts v) →
+        laid texts (set regs k v) (o ∷ os) cs ≡ set (laid texts regs (o ∷ os) cs) c.place (meant texts v)
     no n ih =
         ap (λ l. set l o.cell.place (meant texts (get_or (set regs k v) o.register value.Nil))) ih
         ∙ ap (λ w. set (set (laid texts regs os cs) c.place (meant texts v)) o.cell.place (meant texts w)) (get_or-set_other regs k o.register v value.Nil n.is_not)
@@ -155,7 +162,8 @@ laid_open texts regs k first v c (o ∷ os) cs rises once e =
 -- ---- the register of a cell
 
 -- which of them is the cell
-pub found_by : (b : Bool) (o : OpenCell) (q : Option ℕ) (r : ℕ) → or_else q (cond b (Some o.register) None) ≡ Some r → (q ≡ Some r) ⊎ ((b ≡ true) × (o.register ≡ r))
+pub found_by : (b : Bool) (o : OpenCell) (q : Option ℕ) (r : ℕ) → or_else q (cond b (Some o.register) None) ≡ Some r →
+    (q ≡ Some r) ⊎ ((b ≡ true) × (o.register ≡ r))
 found_by b o (Some k) r e = inl e
 found_by true o None r e = inr (refl, some_is o.register r e)
   where
@@ -200,13 +208,15 @@ other_cell u n c (o ∷ os) w of e =
     differs : (a b : CellId) → wide a.owner ≡ wide b.owner → a.place ≡ b.place → same a b ≡ false → ⊥
     differs a b e f s = absurd (apart (sym s ∙ is_cell a b (cell_at_place a b (short_is a.owner b.owner e) f)))
 
-pub laid_closed : (texts : List m.Bytes) (regs : List Value) (p : ℕ) (os : List OpenCell) (cs : List m.Value) → IsApart p os → get_or (laid texts regs os cs) p m.Nil ≡ get_or cs p m.Nil
+pub laid_closed : (texts : List m.Bytes) (regs : List Value) (p : ℕ) (os : List OpenCell) (cs : List m.Value) → IsApart p os →
+    get_or (laid texts regs os cs) p m.Nil ≡ get_or cs p m.Nil
 laid_closed texts regs p [] cs h = refl
 laid_closed texts regs p (o ∷ os) cs h =
     get_or-set_other (laid texts regs os cs) o.cell.place p (meant texts (get_or regs o.register value.Nil)) m.Nil h.0
     ∙ laid_closed texts regs p os cs h.1
 
-pub laid_set : (texts : List m.Bytes) (regs : List Value) (p : ℕ) (v : m.Value) (os : List OpenCell) (cs : List m.Value) → IsApart p os → laid texts regs os (set cs p v) ≡ set (laid texts regs os cs) p v
+pub laid_set : (texts : List m.Bytes) (regs : List Value) (p : ℕ) (v : m.Value) (os : List OpenCell) (cs : List m.Value) → IsApart p os →
+    laid texts regs os (set cs p v) ≡ set (laid texts regs os cs) p v
 laid_set texts regs p v [] cs h = refl
 laid_set texts regs p v (o ∷ os) cs h =
     ap (λ l. set l o.cell.place (meant texts (get_or regs o.register value.Nil))) (laid_set texts regs p v os cs h.1)
@@ -214,14 +224,17 @@ laid_set texts regs p v (o ∷ os) cs h =
 
 -- ---- one more open cell
 
-pub laid_more : (texts : List m.Bytes) (regs : List Value) (u : Owner) (os : List OpenCell) (cs ys : List m.Value) → AreOf u (length cs) os → laid texts regs os (cs ++ ys) ≡ laid texts regs os cs ++ ys
+pub laid_more : (texts : List m.Bytes) (regs : List Value) (u : Owner) (os : List OpenCell) (cs ys : List m.Value) → AreOf u (length cs) os →
+    laid texts regs os (cs ++ ys) ≡ laid texts regs os cs ++ ys
 laid_more texts regs u [] cs ys of = refl
 laid_more texts regs u (o ∷ os) cs ys of =
     let long : length (laid texts regs os cs) ≡ length cs = laid_length texts regs os cs in
     ap (λ l. set l o.cell.place (meant texts (get_or regs o.register value.Nil))) (laid_more texts regs u os cs ys of.2)
     ∙ set-append_left (laid texts regs os cs) ys o.cell.place (meant texts (get_or regs o.register value.Nil)) (omega (arith, of.1, long))
 
-pub laid_opened : (texts : List m.Bytes) (regs : List Value) (u : Owner) (r : ℕ) (c : CellId) (v : Value) (os : List OpenCell) (cs : List m.Value) → AreOf u (length cs) os → c.place ≡ length cs → v ≡ get_or regs r value.Nil → laid texts regs (opened r c os) (cs ++ meant texts v ∷ []) ≡ laid texts regs os cs ++ meant texts v ∷ []
+pub laid_opened : (texts : List m.Bytes) (regs : List Value) (u : Owner) (r : ℕ) (c : CellId) (v : Value) (os : List OpenCell) (cs : List m.Value) →
+    AreOf u (length cs) os → c.place ≡ length cs → v ≡ get_or regs r value.Nil →
+    laid texts regs (opened r c os) (cs ++ meant texts v ∷ []) ≡ laid texts regs os cs ++ meant texts v ∷ []
 laid_opened texts regs u r c v [] cs of at is =
     set_at cs (meant texts v) [] (meant texts (get_or regs r value.Nil)) c.place (sym at)
     ∙ ap (λ w. cs ++ meant texts w ∷ []) (sym is)
@@ -241,7 +254,8 @@ laid_opened texts regs u r c v (o ∷ os) cs of at is = by (nat_lt o.register r)
 -- ---- closing
 
 -- the arena's cells of a script after a write of one
-pub cells_written : (texts : List m.Bytes) (u : Owner) (a : ArenaView) (c : CellId) (v : Value) → wide c.owner ≡ u → kept_cells texts u (with_cell a c v) ≡ set (kept_cells texts u a) c.place (meant texts v)
+pub cells_written : (texts : List m.Bytes) (u : Owner) (a : ArenaView) (c : CellId) (v : Value) → wide c.owner ≡ u →
+    kept_cells texts u (with_cell a c v) ≡ set (kept_cells texts u a) c.place (meant texts v)
 unfolding with_cell
 cells_written texts u a c v w =
     ap (λ (o : Owner). kept_cells texts u (record a { owners = set a.owners (slot o) (record (objects_of a o) { cells = set (objects_of a o).cells c.place v }) })) w
@@ -260,11 +274,14 @@ kept_none r first end (o ∷ os) le h =
     ∙ kept_none r (o.register + 1) end os (omega (arith, h.0)) h.2
 
 -- the cells are as before
-pub laid_kept : (texts : List m.Bytes) (regs : List Value) (u : Owner) (n r first end : ℕ) (os : List OpenCell) (a : ArenaView) → Rises first end os → AreOf u n os → laid texts regs (kept r os) (kept_cells texts u (closed r regs os a)) ≡ laid texts regs os (kept_cells texts u a)
+pub laid_kept : (texts : List m.Bytes) (regs : List Value) (u : Owner) (n r first end : ℕ) (os : List OpenCell) (a : ArenaView) → Rises first end os →
+    AreOf u n os → laid texts regs (kept r os) (kept_cells texts u (closed r regs os a)) ≡ laid texts regs os (kept_cells texts u a)
 laid_kept texts regs u n r first end [] a rises of = refl
 laid_kept texts regs u n r first end (o ∷ os) a rises of = by (nat_lt o.register r) refl (laid_kept texts regs u n r (o.register + 1) end os a rises.2 of.2)
   where
-    by : (b : Bool) → nat_lt o.register r ≡ b → laid texts regs (kept r os) (kept_cells texts u (closed r regs os a)) ≡ laid texts regs os (kept_cells texts u a) → laid texts regs (cond b (o ∷ kept r os) (kept r os)) (kept_cells texts u (cond b (closed r regs os a) (with_cell (closed r regs os a) o.cell (get_or regs o.register value.Nil)))) ≡ laid texts regs (o ∷ os) (kept_cells texts u a)
+    by : (b : Bool) → nat_lt o.register r ≡ b →
+        laid texts regs (kept r os) (kept_cells texts u (closed r regs os a)) ≡ laid texts regs os (kept_cells texts u a) →
+        laid texts regs (cond b (o ∷ kept r os) (kept r os)) (kept_cells texts u (cond b (closed r regs os a) (with_cell (closed r regs os a) o.cell (get_or regs o.register value.Nil)))) ≡ laid texts regs (o ∷ os) (kept_cells texts u a)
     by true t ih = ap (λ l. set l o.cell.place (meant texts (get_or regs o.register value.Nil))) ih
     by false t ih =
         let above : r ≤ o.register = ltb-false o.register r t in

@@ -29,7 +29,9 @@ use Rattle.machine_world.proofs.Calling.{all_take}
 use Rattle.machine_world.proofs.Delivering.{all_drop}
 
 -- so many registers from one on
-values_are : (w : LibWorld) (code : Code) (s : StackView) (f : Frame) (c : ClosureId) (from n : ℕ) (replies : List Reply) → Layout s → IsMachine w s → from + n ≤ max f.registers (s.top - f.base) → f.base + from + n ≤ length s.registers → values_in (running w.names (objects_of w.arena w.owner).closures s c f) (world_with w code s.frames replies (laid w.names s.registers s.cells (kept_cells w.names w.owner w.arena))) from n ≡ map (meant w.names) (take n (drop (f.base + from) s.registers))
+values_are : (w : LibWorld) (code : Code) (s : StackView) (f : Frame) (c : ClosureId) (from n : ℕ) (replies : List Reply) → Layout s → IsMachine w s →
+    from + n ≤ max f.registers (s.top - f.base) → f.base + from + n ≤ length s.registers →
+    values_in (running w.names (objects_of w.arena w.owner).closures s c f) (world_with w code s.frames replies (laid w.names s.registers s.cells (kept_cells w.names w.owner w.arena))) from n ≡ map (meant w.names) (take n (drop (f.base + from) s.registers))
 values_are w code s f c from zero replies layout is wide high = refl
 values_are w code s f c from (suc n) replies layout is wide high =
     let names = w.names in
@@ -57,7 +59,8 @@ pub record Reached (s : StackView) (f : Frame) (count from : ℕ) : Type 0 where
   pub within : f.base + from + span count s.top (f.base + from) ≤ length s.registers
   pub low : ReachesTo count from f.registers f.base s.top
 
-reached_by : (count from : ℕ) (s : StackView) (f : Frame) → f.base + f.registers ≤ length s.registers → s.top ≤ length s.registers → ReachesTo count from f.registers f.base s.top → Reached s f count from
+reached_by : (count from : ℕ) (s : StackView) (f : Frame) → f.base + f.registers ≤ length s.registers → s.top ≤ length s.registers →
+    ReachesTo count from f.registers f.base s.top → Reached s f count from
 reached_by zero from s f high top h = record { wide = omega (arith, h); within = omega (arith, h, top); low = h }
 reached_by (suc k) from s f high top h = record { wide = omega (arith, h); within = omega (arith, h, high); low = h }
 
@@ -65,11 +68,14 @@ pub reached : (s : StackView) (f : Frame) (count from : ℕ) → innermost s ≡
 reached s f count from e h layout =
     reached_by count from s f (lies s f e layout).high layout.top (of_frame s (λ f. IsLuau f × ReachesTo count from f.registers f.base s.top) f e h).1
 
-list_is : (count from : ℕ) (s : StackView) (f : Frame) (run : machine.Frame) (world : machine.World) → run.top ≡ s.top - f.base → list_from count from run world ≡ values_in run world from (span count s.top (f.base + from))
+list_is : (count from : ℕ) (s : StackView) (f : Frame) (run : machine.Frame) (world : machine.World) → run.top ≡ s.top - f.base →
+    list_from count from run world ≡ values_in run world from (span count s.top (f.base + from))
 list_is zero from s f run world e = let n : run.top - from ≡ s.top - (f.base + from) = omega (arith, e) in ap (λ n. values_in run world from n) n
 list_is (suc k) from s f run world e = refl
 
-pub part_list : (w : LibWorld) (code : Code) (s : StackView) (f : Frame) (count from : ℕ) (x : Focus) (replies : List Reply) → innermost s ≡ Some f → HasList s count from → Layout s → IsMachine w s → map (meant w.names) (take (span count s.top (f.base + from)) (drop (f.base + from) s.registers)) ≡ read_of [] (list_of count from) (part w code s x replies)
+pub part_list : (w : LibWorld) (code : Code) (s : StackView) (f : Frame) (count from : ℕ) (x : Focus) (replies : List Reply) → innermost s ≡ Some f →
+    HasList s count from → Layout s → IsMachine w s →
+    map (meant w.names) (take (span count s.top (f.base + from)) (drop (f.base + from) s.registers)) ≡ read_of [] (list_of count from) (part w code s x replies)
 unfolding part cells_of
 part_list w code s f count from x replies e h layout is =
     let i = inner s (runs_list s count from h) in
@@ -93,12 +99,14 @@ part_list w code s f count from x replies e h layout is =
 pub list_usable : (w : LibWorld) (s : StackView) (n from : ℕ) → IsMachine w s → AllByRecursion (MayUseIn w) (take n (drop from s.registers))
 list_usable w s n from is = all_take (MayUseIn w) n (drop from s.registers) (all_drop (MayUseIn w) from s.registers is.values)
 
-place_by : (count from : ℕ) (s : StackView) (f : Frame) → ReachesTo count from f.registers f.base s.top → (f.base + from ≤ f.base + f.registers) ⊎ (f.base + from ≤ s.top)
+place_by : (count from : ℕ) (s : StackView) (f : Frame) → ReachesTo count from f.registers f.base s.top →
+    (f.base + from ≤ f.base + f.registers) ⊎ (f.base + from ≤ s.top)
 place_by zero from s f h = inr h
 place_by (suc k) from s f h = inl (omega (arith, h))
 
 -- where a list begins is no further than the end of the registers, or than the top
-pub list_place : (s : StackView) (f : Frame) (count from : ℕ) → innermost s ≡ Some f → HasList s count from → (f.base + from ≤ end_of s) ⊎ (f.base + from ≤ s.top)
+pub list_place : (s : StackView) (f : Frame) (count from : ℕ) → innermost s ≡ Some f → HasList s count from →
+    (f.base + from ≤ end_of s) ⊎ (f.base + from ≤ s.top)
 list_place s f count from e h =
     ⊎_elim (λ le. inl (subst (λ n. f.base + from ≤ n) (sym (ap end_in e)) le)) (λ le. inr le)
     (place_by count from s f (of_frame s (λ f. IsLuau f × ReachesTo count from f.registers f.base s.top) f e h).1)

@@ -24,11 +24,13 @@ shown texts regs q o = option_map_or (λ (c : CellId). Open c.place) o (Val (mea
 
 -- ---- a register is written
 
-pub register_beside : (texts : List m.Bytes) (regs : List Value) (os : List OpenCell) (k q : ℕ) (v : Value) → q ≢ k → register texts (set regs k v) os q ≡ register texts regs os q
+pub register_beside : (texts : List m.Bytes) (regs : List Value) (os : List OpenCell) (k q : ℕ) (v : Value) → q ≢ k →
+    register texts (set regs k v) os q ≡ register texts regs os q
 register_beside texts regs os k q v ne =
     ap (λ w. option_map_or (λ (c : CellId). Open c.place) (cell_on q os) (Val (meant texts w))) (get_or-set_other regs k q v value.Nil ne)
 
-pub register_open : (texts : List m.Bytes) (regs : List Value) (os : List OpenCell) (k q : ℕ) (v : Value) (c : CellId) → cell_on k os ≡ Some c → register texts (set regs k v) os q ≡ register texts regs os q
+pub register_open : (texts : List m.Bytes) (regs : List Value) (os : List OpenCell) (k q : ℕ) (v : Value) (c : CellId) → cell_on k os ≡ Some c →
+    register texts (set regs k v) os q ≡ register texts regs os q
 register_open texts regs os k q v c on = ⊎_elim (λ h. here h.1) (λ h. register_beside texts regs os k q v h.1) (eqb_tells q k)
   where
     here : q ≡ k → register texts (set regs k v) os q ≡ register texts regs os q
@@ -36,7 +38,8 @@ register_open texts regs os k q v c on = ⊎_elim (λ h. here h.1) (λ h. regist
         let is : cell_on q os ≡ Some c = ap (λ q. cell_on q os) e ∙ on in
         ap (shown texts (set regs k v) q) is ∙ sym (ap (shown texts regs q) is)
 
-pub register_plain : (texts : List m.Bytes) (regs : List Value) (os : List OpenCell) (k : ℕ) (v : Value) → cell_on k os ≡ None → k < length regs → register texts (set regs k v) os k ≡ Val (meant texts v)
+pub register_plain : (texts : List m.Bytes) (regs : List Value) (os : List OpenCell) (k : ℕ) (v : Value) → cell_on k os ≡ None → k < length regs →
+    register texts (set regs k v) os k ≡ Val (meant texts v)
 register_plain texts regs os k v none h =
     ap (shown texts (set regs k v) k) none ∙ ap (λ w. Val (meant texts w)) (get_or-set_same regs k v value.Nil h)
 
@@ -66,7 +69,8 @@ on_opened r q c (o ∷ os) e =
         ap (λ l. cond (nat_eq o.register q) (Some o.cell) l) ih ∙ swap o.register r q (Some o.cell) (Some c) (cell_on q os) ne
     by false ne ih = refl
 
-pub register_opened : (texts : List m.Bytes) (regs : List Value) (os : List OpenCell) (r q : ℕ) (c : CellId) → cell_on r os ≡ None → register texts regs (opened r c os) q ≡ cond (nat_eq r q) (Open c.place) (register texts regs os q)
+pub register_opened : (texts : List m.Bytes) (regs : List Value) (os : List OpenCell) (r q : ℕ) (c : CellId) → cell_on r os ≡ None →
+    register texts regs (opened r c os) q ≡ cond (nat_eq r q) (Open c.place) (register texts regs os q)
 register_opened texts regs os r q c none = ap (shown texts regs q) (on_opened r q c os none) ∙ by (nat_eq r q)
   where
     by : (b : Bool) → shown texts regs q (cond b (Some c) (cell_on q os)) ≡ cond b (Open c.place) (register texts regs os q)
@@ -83,15 +87,18 @@ pub on_kept : (r q : ℕ) (os : List OpenCell) → cell_on q (kept r os) ≡ con
 on_kept r q [] = either_way (nat_lt q r) None
 on_kept r q (o ∷ os) = by (nat_lt o.register r) refl (on_kept r q os)
   where
-    by : (b : Bool) → nat_lt o.register r ≡ b → cell_on q (kept r os) ≡ cond (nat_lt q r) (cell_on q os) None → cell_on q (cond b (o ∷ kept r os) (kept r os)) ≡ cond (nat_lt q r) (cell_on q (o ∷ os)) None
+    by : (b : Bool) → nat_lt o.register r ≡ b → cell_on q (kept r os) ≡ cond (nat_lt q r) (cell_on q os) None →
+        cell_on q (cond b (o ∷ kept r os) (kept r os)) ≡ cond (nat_lt q r) (cell_on q (o ∷ os)) None
     by true t ih = ap (λ l. cond (nat_eq o.register q) (Some o.cell) l) ih ∙ ⊎_elim (λ h. here h.1) (λ h. there h.0) (eqb_tells o.register q)
       where
-        here : o.register ≡ q → cond (nat_eq o.register q) (Some o.cell) (cond (nat_lt q r) (cell_on q os) None) ≡ cond (nat_lt q r) (cell_on q (o ∷ os)) None
+        here : o.register ≡ q →
+            cond (nat_eq o.register q) (Some o.cell) (cond (nat_lt q r) (cell_on q os) None) ≡ cond (nat_lt q r) (cell_on q (o ∷ os)) None
         here e =
             let low : nat_lt q r ≡ true = ap (λ q. nat_lt q r) (sym e) ∙ t in
             ap (λ b. cond (nat_eq o.register q) (Some o.cell) (cond b (cell_on q os) None)) low ∙ sym (ap (λ b. cond b (cell_on q (o ∷ os)) None) low)
 
-        there : nat_eq o.register q ≡ false → cond (nat_eq o.register q) (Some o.cell) (cond (nat_lt q r) (cell_on q os) None) ≡ cond (nat_lt q r) (cell_on q (o ∷ os)) None
+        there : nat_eq o.register q ≡ false →
+            cond (nat_eq o.register q) (Some o.cell) (cond (nat_lt q r) (cell_on q os) None) ≡ cond (nat_lt q r) (cell_on q (o ∷ os)) None
         there f =
             ap (λ b. cond b (Some o.cell) (cond (nat_lt q r) (cell_on q os) None)) f
             ∙ sym (ap (λ b. cond (nat_lt q r) (cond b (Some o.cell) (cell_on q os)) None) f)
@@ -105,21 +112,26 @@ on_kept r q (o ∷ os) = by (nat_lt o.register r) refl (on_kept r q os)
         there : nat_eq o.register q ≡ false → cond (nat_lt q r) (cell_on q os) None ≡ cond (nat_lt q r) (cell_on q (o ∷ os)) None
         there f = sym (ap (λ b. cond (nat_lt q r) (cond b (Some o.cell) (cell_on q os)) None) f)
 
-pub register_low : (texts : List m.Bytes) (regs : List Value) (os : List OpenCell) (r q : ℕ) → q < r → register texts regs (kept r os) q ≡ register texts regs os q
+pub register_low : (texts : List m.Bytes) (regs : List Value) (os : List OpenCell) (r q : ℕ) → q < r →
+    register texts regs (kept r os) q ≡ register texts regs os q
 register_low texts regs os r q h =
     ap (shown texts regs q) (on_kept r q os ∙ ap (λ b. cond b (cell_on q os) None) (lt-ltb q r h))
 
 -- a register's value, read through its cell if it is open
-pub held_is : (texts : List m.Bytes) (regs : List Value) (u : Owner) (q : ℕ) (os : List OpenCell) (cs : List m.Value) → Distinct os → AreOf u (length cs) os → held (laid texts regs os cs) (register texts regs os q) ≡ meant texts (get_or regs q value.Nil)
+pub held_is : (texts : List m.Bytes) (regs : List Value) (u : Owner) (q : ℕ) (os : List OpenCell) (cs : List m.Value) → Distinct os →
+    AreOf u (length cs) os → held (laid texts regs os cs) (register texts regs os q) ≡ meant texts (get_or regs q value.Nil)
 held_is texts regs u q os cs once of = by (cell_on q os) refl
   where
     by : (o : Option CellId) → cell_on q os ≡ o → held (laid texts regs os cs) (shown texts regs q o) ≡ meant texts (get_or regs q value.Nil)
     by None e = refl
     by (Some c) e = laid_on texts regs u q c os cs once of e
 
-pub register_kept : (texts : List m.Bytes) (regs : List Value) (u : Owner) (r q : ℕ) (os : List OpenCell) (cs : List m.Value) → Distinct os → AreOf u (length cs) os → register texts regs (kept r os) q ≡ cond (nat_lt q r) (register texts regs os q) (Val (held (laid texts regs os cs) (register texts regs os q)))
+pub register_kept : (texts : List m.Bytes) (regs : List Value) (u : Owner) (r q : ℕ) (os : List OpenCell) (cs : List m.Value) → Distinct os →
+    AreOf u (length cs) os →
+    register texts regs (kept r os) q ≡ cond (nat_lt q r) (register texts regs os q) (Val (held (laid texts regs os cs) (register texts regs os q)))
 register_kept texts regs u r q os cs once of = ap (shown texts regs q) (on_kept r q os) ∙ by (nat_lt q r)
   where
-    by : (b : Bool) → shown texts regs q (cond b (cell_on q os) None) ≡ cond b (register texts regs os q) (Val (held (laid texts regs os cs) (register texts regs os q)))
+    by : (b : Bool) →
+        shown texts regs q (cond b (cell_on q os) None) ≡ cond b (register texts regs os q) (Val (held (laid texts regs os cs) (register texts regs os q)))
     by true = refl
     by false = ap Val (sym (held_is texts regs u q os cs once of))

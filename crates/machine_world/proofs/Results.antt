@@ -50,7 +50,9 @@ pub record Captures (w : LibWorld) (code : Code) (s s' : StackView) (a' : ArenaV
   pub own : IsCell w.owner a' c
   pub sound : IsMachine (record w { arena = a' }) s'
 
-one_captures : (w : LibWorld) (code : Code) (s s' : StackView) (a' : ArenaView) (r place : ℕ) (c : CellId) → (c, s', a') ≡ opens.captured s w.arena w.owner place → HasCell a' c × AreIn a' s'.cells → place ≡ place_of s r → HasRegister s r → Layout s → IsMachine w s → Captures w code s s' a' r c
+one_captures : (w : LibWorld) (code : Code) (s s' : StackView) (a' : ArenaView) (r place : ℕ) (c : CellId) →
+    (c, s', a') ≡ opens.captured s w.arena w.owner place → HasCell a' c × AreIn a' s'.cells → place ≡ place_of s r → HasRegister s r → Layout s →
+    IsMachine w s → Captures w code s s' a' r c
 one_captures w code s s' a' r place c e has at h layout is =
     let t : Three = (c, s', a') in
     let is_t : t ≡ opens.captured s w.arena w.owner (place_of s r) = e ∙ ap (opens.captured s w.arena w.owner) at in
@@ -62,14 +64,17 @@ one_captures w code s s' a' r place c e has at h layout is =
       sound = kept.0;
     }
 
-pub captures : {E : Type 0} (w : LibWorld) (code : Code) (s s' : StackView) (a' : ArenaView) (r place : ℕ) (q : Result CellId E) → IfOk q (λ c. (c, s', a') ≡ opens.captured s w.arena w.owner place) → IfOk q (λ c. HasCell a' c × AreIn a' s'.cells) → place ≡ place_of s r → HasRegister s r → Layout s → IsMachine w s → IfOk q (λ c. Captures w code s s' a' r c)
+pub captures : {E : Type 0} (w : LibWorld) (code : Code) (s s' : StackView) (a' : ArenaView) (r place : ℕ) (q : Result CellId E) →
+    IfOk q (λ c. (c, s', a') ≡ opens.captured s w.arena w.owner place) → IfOk q (λ c. HasCell a' c × AreIn a' s'.cells) → place ≡ place_of s r →
+    HasRegister s r → Layout s → IsMachine w s → IfOk q (λ c. Captures w code s s' a' r c)
 captures w code s s' a' r place (Ok c) e has at h layout is = one_captures w code s s' a' r place c e has at h layout is
 captures w code s s' a' r place (Err x) e has at h layout is = tt
 
 -- ---- calls
 
 -- nobody has a function
-pub own_closure : (w : LibWorld) (c : ClosureId) → (objects_of w.arena Frozen).closures ≡ [] → MaySee w.owner (wide c.owner) × HasClosure w.arena c → (wide c.owner ≡ w.owner) × HasClosure w.arena c
+pub own_closure : (w : LibWorld) (c : ClosureId) → (objects_of w.arena Frozen).closures ≡ [] → MaySee w.owner (wide c.owner) × HasClosure w.arena c →
+    (wide c.owner ≡ w.owner) × HasClosure w.arena c
 unfolding HasClosure
 own_closure w c none (inl e, has) = (e, has)
 own_closure w c none (inr e, has) =
@@ -78,10 +83,13 @@ own_closure w c none (inr e, has) =
     let no : c.place < length empty = subst (λ (cs : List Closure). c.place < length cs) none low in
     absurd (omega (arith, no))
 
-pub enters : (w : LibWorld) (code : Code) (s s' : StackView) (c : ClosureId) (n : ℕ) (given extra : List Value) → s' ≡ called c n given extra s → s.top ≡ 0 → length given ≤ n → end_of s ≤ length s.registers → Layout s → IsMachine w s → Becomes (entered c.place n (map (meant w.names) given) (map (meant w.names) extra)) w code s w s'
+pub enters : (w : LibWorld) (code : Code) (s s' : StackView) (c : ClosureId) (n : ℕ) (given extra : List Value) → s' ≡ called c n given extra s →
+    s.top ≡ 0 → length given ≤ n → end_of s ≤ length s.registers → Layout s → IsMachine w s →
+    Becomes (entered c.place n (map (meant w.names) given) (map (meant w.names) extra)) w code s w s'
 enters w code s s' c n given extra e none le high layout is =
     λ x replies. ap (λ (s : StackView). part w code s x replies) e ∙ part_called w code s c n given extra x replies none le high layout is
 
-pub keeps_enter : (w : LibWorld) (s s' : StackView) (c : ClosureId) (n : ℕ) (given extra : List Value) → s' ≡ called c n given extra s → MayUseIn w (value.Closure c) → AllByRecursion (MayUseIn w) given → AllByRecursion (MayUseIn w) extra → IsMachine w s → IsMachine w s'
+pub keeps_enter : (w : LibWorld) (s s' : StackView) (c : ClosureId) (n : ℕ) (given extra : List Value) → s' ≡ called c n given extra s →
+    MayUseIn w (value.Closure c) → AllByRecursion (MayUseIn w) given → AllByRecursion (MayUseIn w) extra → IsMachine w s → IsMachine w s'
 keeps_enter w s s' c n given extra e may h k is =
     subst (IsMachine w) (sym e) (keeps_called w s c n given extra (own_closure w c is.world.own.shared.closures may.0) h k is)

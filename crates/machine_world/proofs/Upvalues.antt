@@ -57,7 +57,8 @@ all_at P (y ∷ xs) zero x h e = let same : y ≡ x = cc in subst P same h.0
 all_at P (y ∷ xs) (suc i) x h e = all_at P xs i x h.1 e
 
 -- the function of a frame is the owner's, and is there
-pub function_there : (w : Owner) (a : ArenaView) (fs : List Frame) (i : ℕ) (f : Frame) (c : ClosureId) → AllByRecursion (IsFunctionOf w a) fs → slice_get fs i ≡ Some f → f.closure ≡ Some c → (wide c.owner ≡ w) × HasClosure a c
+pub function_there : (w : Owner) (a : ArenaView) (fs : List Frame) (i : ℕ) (f : Frame) (c : ClosureId) → AllByRecursion (IsFunctionOf w a) fs →
+    slice_get fs i ≡ Some f → f.closure ≡ Some c → (wide c.owner ≡ w) × HasClosure a c
 function_there w a fs i f c h e k =
     subst (λ q. IfSome q (λ (c : ClosureId). (wide c.owner ≡ w) × HasClosure a c)) k (all_at (IsFunctionOf w a) fs i f h e)
 
@@ -80,7 +81,8 @@ own_cell w a c none (inr e, has) =
     let no : c.place < length empty = subst (λ (cs : List Value). c.place < length cs) none low in
     absurd (omega (arith, no))
 
-pub up : (w : LibWorld) (code : Code) (s : StackView) (u : ℕ) (f : Frame) (k : ClosureId) (c : CellId) → innermost s ≡ Some f → f.closure ≡ Some k → slice_get (closure_at w.arena k).cells u ≡ Some c → IsMachine w s → Up w code s u c
+pub up : (w : LibWorld) (code : Code) (s : StackView) (u : ℕ) (f : Frame) (k : ClosureId) (c : CellId) → innermost s ≡ Some f → f.closure ≡ Some k →
+    slice_get (closure_at w.arena k).cells u ≡ Some c → IsMachine w s → Up w code s u c
 unfolding part
 up w code s u f k c e of got is =
     let there = function_there w.owner w.arena s.frames (length s.frames - 1) f k is.functions e of in
@@ -98,14 +100,16 @@ up w code s u f k c e of got is =
 
 -- ---- reading
 
-pub cell_read : (w : LibWorld) (s : StackView) (c : CellId) → Layout s → IsMachine w s → IsCell w.owner w.arena c → meant w.names (opens.read_up s w.arena c) ≡ get_or (cells_of w.names w.owner s w.arena) c.place m.Nil
+pub cell_read : (w : LibWorld) (s : StackView) (c : CellId) → Layout s → IsMachine w s → IsCell w.owner w.arena c →
+    meant w.names (opens.read_up s w.arena c) ≡ get_or (cells_of w.names w.owner s w.arena) c.place m.Nil
 unfolding opens.read_up cells_of cell_at
 cell_read w s c layout is cell = by (register_of c s.cells) refl
   where
     kept : List m.Value
     kept = kept_cells w.names w.owner w.arena
 
-    by : (q : Option ℕ) → register_of c s.cells ≡ q → meant w.names (option_map_or (register_at s) q (cell_at w.arena c)) ≡ get_or (laid w.names s.registers s.cells kept) c.place m.Nil
+    by : (q : Option ℕ) → register_of c s.cells ≡ q →
+        meant w.names (option_map_or (register_at s) q (cell_at w.arena c)) ≡ get_or (laid w.names s.registers s.cells kept) c.place m.Nil
     by None e =
         ap (λ (u : Owner). meant w.names (get_or (objects_of w.arena u).cells c.place value.Nil)) cell.0
         ∙ sym (get_or-map (meant w.names) (objects_of w.arena w.owner).cells c.place value.Nil m.Nil cell.1)
@@ -115,7 +119,8 @@ cell_read w s c layout is cell = by (register_of c s.cells) refl
         sym (laid_on w.names s.registers w.owner r c s.cells kept (distinct w.owner (length kept) s.cells of layout.once) of (on_found c 0 (length s.registers) s.cells r layout.rises e))
 
 -- the value of the upvalue
-pub part_read_up : (w : LibWorld) (code : Code) (s : StackView) (u : ℕ) (c : CellId) (x : Focus) (replies : List Reply) → Runs s → Layout s → IsMachine w s → Up w code s u c → meant w.names (opens.read_up s w.arena c) ≡ read_of m.Nil (upvalue u) (part w code s x replies)
+pub part_read_up : (w : LibWorld) (code : Code) (s : StackView) (u : ℕ) (c : CellId) (x : Focus) (replies : List Reply) → Runs s → Layout s →
+    IsMachine w s → Up w code s u c → meant w.names (opens.read_up s w.arena c) ≡ read_of m.Nil (upvalue u) (part w code s x replies)
 unfolding part
 part_read_up w code s u c x replies runs layout is up =
     let i = inner s runs in
@@ -149,7 +154,9 @@ of_both w code x replies b = part (record w { arena = b.1 }) code b.0 x replies
 abbrev pub BothSound : LibWorld → Both → Type 0
 BothSound w b = IsMachine (record w { arena = b.1 }) b.0
 
-cell_written : (w : LibWorld) (code : Code) (s : StackView) (c : CellId) (v : Value) (x : Focus) (replies : List Reply) → Layout s → IsMachine w s → IsCell w.owner w.arena c → MayUseIn w v → of_both w code x replies (opens.write_up s w.arena c v) ≡ state_with w code s.frames x replies (functions_of w.names (objects_of w.arena w.owner).closures s) (set (cells_of w.names w.owner s w.arena) c.place (meant w.names v))
+cell_written : (w : LibWorld) (code : Code) (s : StackView) (c : CellId) (v : Value) (x : Focus) (replies : List Reply) → Layout s → IsMachine w s →
+    IsCell w.owner w.arena c → MayUseIn w v →
+    of_both w code x replies (opens.write_up s w.arena c v) ≡ state_with w code s.frames x replies (functions_of w.names (objects_of w.arena w.owner).closures s) (set (cells_of w.names w.owner s w.arena) c.place (meant w.names v))
 unfolding opens.write_up part cells_of
 cell_written w code s c v x replies layout is cell may = by (register_of c s.cells) refl
   where
@@ -170,7 +177,9 @@ cell_written w code s c v x replies layout is cell may = by (register_of c s.cel
         ∙ ap (λ cells. state_with w code s.frames x replies (functions_of w.names cs s) cells) (laid_set w.names s.registers c.place (meant w.names v) s.cells kept apart)
     by (Some r) e = open_written w code s r v c x replies layout is (on_found c 0 (length s.registers) s.cells r layout.rises e)
 
-pub part_write_up : (w : LibWorld) (code : Code) (s : StackView) (u : ℕ) (c : CellId) (v : Value) (b : Both) (x : Focus) (replies : List Reply) → opens.write_up s w.arena c v ≡ b → Runs s → Layout s → IsMachine w s → Up w code s u c → MayUseIn w v → of_both w code x replies b ≡ changed (set_upvalue u (meant w.names v)) (part w code s x replies)
+pub part_write_up : (w : LibWorld) (code : Code) (s : StackView) (u : ℕ) (c : CellId) (v : Value) (b : Both) (x : Focus) (replies : List Reply) →
+    opens.write_up s w.arena c v ≡ b → Runs s → Layout s → IsMachine w s → Up w code s u c → MayUseIn w v →
+    of_both w code x replies b ≡ changed (set_upvalue u (meant w.names v)) (part w code s x replies)
 unfolding part
 part_write_up w code s u c v b x replies e runs layout is up may =
     let i = inner s runs in
@@ -187,7 +196,8 @@ part_write_up w code s u c v b x replies e runs layout is up may =
     ∙ ap (λ p. state_with w code s.frames x replies (run ∷ others) (set cells p (meant w.names v))) place
     ∙ sym (ap (λ fs. changed_in (set_upvalue u (meant w.names v)) x fs world) split)
 
-pub keeps_write_up : (w : LibWorld) (s : StackView) (c : CellId) (v : Value) (b : Both) → opens.write_up s w.arena c v ≡ b → IsMachine w s → IsCell w.owner w.arena c → MayUseIn w v → BothSound w b
+pub keeps_write_up : (w : LibWorld) (s : StackView) (c : CellId) (v : Value) (b : Both) → opens.write_up s w.arena c v ≡ b → IsMachine w s →
+    IsCell w.owner w.arena c → MayUseIn w v → BothSound w b
 unfolding opens.write_up
 keeps_write_up w s c v b e is cell may = subst (BothSound w) e (by (register_of c s.cells))
   where

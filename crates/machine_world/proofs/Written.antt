@@ -31,7 +31,8 @@ use Rattle.machine_world.proofs.Registers.{shown, register_beside, register_open
 use Rattle.machine_world.proofs.Frames.{inner, runs_with, has_low, functions_split, lies, register_here, functions_changed, functions_same, own_outside}
 
 -- as many cells as the arena has
-pub of_kept : (texts : List m.Bytes) (w : Owner) (a : ArenaView) (os : List OpenCell) → AreOf w (cell_count w a) os → AreOf w (length (kept_cells texts w a)) os
+pub of_kept : (texts : List m.Bytes) (w : Owner) (a : ArenaView) (os : List OpenCell) → AreOf w (cell_count w a) os →
+    AreOf w (length (kept_cells texts w a)) os
 of_kept texts w a os h = subst (λ n. AreOf w n os) (sym (length-map (objects_of a w).cells (meant texts))) h
 
 -- the state once the function that runs was changed
@@ -40,7 +41,8 @@ after x fs i = record { focus = x; functions = i.frame ∷ fs; world = i.world }
 
 -- ---- reading
 
-pub part_read : (w : LibWorld) (code : Code) (s : StackView) (r : ℕ) (x : Focus) (replies : List Reply) → HasRegister s r → Layout s → IsMachine w s → meant w.names (local s r) ≡ read_of m.Nil (register_value r) (part w code s x replies)
+pub part_read : (w : LibWorld) (code : Code) (s : StackView) (r : ℕ) (x : Focus) (replies : List Reply) → HasRegister s r → Layout s → IsMachine w s →
+    meant w.names (local s r) ≡ read_of m.Nil (register_value r) (part w code s x replies)
 unfolding local part cells_of
 part_read w code s r x replies h layout is =
     let i = inner s (runs_with s r h) in
@@ -57,7 +59,8 @@ part_read w code s r x replies h layout is =
 
 -- ---- writing
 
-own_write : (texts : List m.Bytes) (regs : List Value) (os : List OpenCell) (n base r q : ℕ) (v : Value) → cell_on (base + r) os ≡ None → base + r < length regs → r < n → window texts (set regs (base + r) v) os n base q ≡ put (window texts regs os n base) r (Val (meant texts v)) q
+own_write : (texts : List m.Bytes) (regs : List Value) (os : List OpenCell) (n base r q : ℕ) (v : Value) → cell_on (base + r) os ≡ None →
+    base + r < length regs → r < n → window texts (set regs (base + r) v) os n base q ≡ put (window texts regs os n base) r (Val (meant texts v)) q
 own_write texts regs os n base r q v none within low = ⊎_elim (λ h. here h.0 h.1) (λ h. there h.0 h.1) (eqb_tells q r)
   where
     here : nat_eq q r ≡ true → q ≡ r → window texts (set regs (base + r) v) os n base q ≡ put (window texts regs os n base) r (Val (meant texts v)) q
@@ -136,7 +139,8 @@ write_at w code s r v x replies f c e k low within layout is =
         ∙ ap (λ fs. state_with w code s.frames x replies fs (set cells d.place v')) split
 
 -- a register of its own
-pub part_write : (w : LibWorld) (code : Code) (s : StackView) (r : ℕ) (v : Value) (x : Focus) (replies : List Reply) → HasRegister s r → Layout s → IsMachine w s → part w code (with_local s r v) x replies ≡ changed (machine.set r (meant w.names v)) (part w code s x replies)
+pub part_write : (w : LibWorld) (code : Code) (s : StackView) (r : ℕ) (v : Value) (x : Focus) (replies : List Reply) → HasRegister s r → Layout s →
+    IsMachine w s → part w code (with_local s r v) x replies ≡ changed (machine.set r (meant w.names v)) (part w code s x replies)
 unfolding with_local
 part_write w code s r v x replies h layout is =
     let i = inner s (runs_with s r h) in
