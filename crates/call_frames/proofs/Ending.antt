@@ -1,12 +1,12 @@
 -- Where the registers of the innermost frame end.
-use Rattle.std.proofs.Common.{◌≡◌, ℕ, zero, suc, ◌+◌, ◌-◌, ◌<◌, ◌≤◌, List, [], ◌∷◌, ◌++◌, length, take, drop, get_or, replicate, Option, Some, None, IsSomeAnd, slice_get, refl, sym, ◌∙◌, ap, subst, arith}
+use Rattle.std.proofs.Common.{◌≡◌, ℕ, suc, ◌+◌, ◌-◌, ◌<◌, ◌≤◌, List, [], ◌∷◌, ◌++◌, length, take, get_or, replicate, Option, Some, None, IsSomeAnd, slice_get, refl, sym, ◌∙◌, ap, subst, arith}
 use Rattle.std.proofs.lemmas.List.{length-append, length-take, length-replicate}
 use Rattle.value_model.specs.declared.value.Value.{Value}
 use Rattle.value_model.specs.declared.value.Value.TheVariants.{Nil}
 use Rattle.call_frames.specs.declared.frame.Frame.{Frame}
 use Rattle.call_frames.specs.declared.frame.OpenCell.{OpenCell}
 use Rattle.call_frames.specs.Stacks.{StackView, Layout, Rises, AreBelow, AreApart, IsLive, here, there, AreLive, Once}
-use Rattle.call_frames.specs.Cells.{innermost, outer, end_in, end_of, entered_frame, place_in, place_of, HasPlace, overlaid}
+use Rattle.call_frames.specs.Cells.{innermost, end_in, end_of, entered_frame, place_in, place_of, HasPlace}
 use Rattle.call_frames.proofs.Closing.{split_last, last_below, read_last, below_push, apart_push}
 use Rattle.call_frames.proofs.Live.{are_live_push}
 use Rattle.value_model.specs.declared.ids.ClosureId.{ClosureId}

@@ -1,8 +1,7 @@
-use Rattle.std.proofs.Common.{◌≡◌, ◌+◌, ◌-◌, ◌<◌, ◌≤◌, ◌++◌, ◌∷◌, [], List, refl, sym, ◌∙◌, ap, subst, length, take, get_or, slice_get, Some, arith, ℕ}
-use Rattle.value_model.specs.declared.value.Value.{Value}
+use Rattle.std.proofs.Common.{◌≡◌, ◌+◌, ◌-◌, refl, sym, ◌∙◌, ap, subst, length, take, get_or, arith}
 use Rattle.call_frames.specs.Stacks as spec
 use Rattle.call_frames.specs.Cells as opens
-use Rattle.call_frames.proofs.Ending.{EndsAt, ends_at, Lying, lying_on, placed_at, some_place}
+use Rattle.call_frames.proofs.Ending.{EndsAt, ends_at, lying_on, placed_at, some_place}
 use Rattle.call_frames.proofs.stack.Stack.deliver.Goals as goal
 
 pub invariant_of-self : goal.invariant_of-self

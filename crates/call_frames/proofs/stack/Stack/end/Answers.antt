@@ -1,7 +1,6 @@
-use Rattle.std.proofs.Common.{◌≡◌, ◌+◌, ◌-◌, ◌<◌, ◌≤◌, sym, ◌∙◌, ap, subst, length, get_or, arith}
+use Rattle.std.proofs.Common.{◌≡◌, ◌-◌, ◌∙◌, ap, length, get_or, arith}
 use Rattle.call_frames.specs.Stacks as spec
-use Rattle.call_frames.specs.Cells as opens
-use Rattle.call_frames.proofs.Ending.{EndsAt, ends_at, end_none}
+use Rattle.call_frames.proofs.Ending.{EndsAt, ends_at}
 use Rattle.call_frames.proofs.stack.Stack.end.Goals as goal
 
 pub overflow_add-result : goal.overflow_add-result
