@@ -2,6 +2,7 @@
 use Rattle.std.proofs.Common.{◌≡◌, ℕ, suc, ◌+◌, ◌-◌, ◌<◌, ◌≤◌, List, [], ◌∷◌, ◌++◌, length, take, set, Option, Some, None, IsSomeAnd, slice_get, refl, sym, ◌∙◌, ap, subst, arith}
 use Rattle.std.specs.Option.{option_map_or}
 use Rattle.call_frames.specs.declared.frame.Frame.{Frame}
+use Rattle.call_frames.specs.declared.frame.ReturnKind.{ReturnKind}
 use Rattle.call_frames.specs.declared.frame.OpenCell.{OpenCell}
 use Rattle.call_frames.specs.Stacks.{StackView, Layout, AreBelow, AreApart, IsOf, IsLive, here, there, AreLive, pushed}
 use Rattle.call_frames.specs.Cells.{innermost, outer, low, with_innermost, MayHaveExtra, HasLocal, IsOwn, place_in, place_of}
@@ -54,6 +55,12 @@ lie_changed end fs os f g e covers apart h =
 pub lie_placed : (end : ℕ) (fs : List Frame) (os : List OpenCell) (f : Frame) (place : ℕ) → slice_get fs (length fs - 1) ≡ Some f → Lie end fs os → Lie end (set fs (length fs - 1) (record f { place = place })) os
 lie_placed end fs os f place e h =
     lie_changed end fs os f (record f { place = place }) e (record { low = omega arith; high = refl })
+    (outer_below (take (length fs - 1) fs) f (subst AreApart (split_last fs f e) h.apart)) h
+
+-- what it waits for is given to it otherwise
+pub lie_kind : (end : ℕ) (fs : List Frame) (os : List OpenCell) (f : Frame) (kind : ReturnKind) → slice_get fs (length fs - 1) ≡ Some f → Lie end fs os → Lie end (set fs (length fs - 1) (record f { kind = kind })) os
+lie_kind end fs os f kind e h =
+    lie_changed end fs os f (record f { kind = kind }) e (record { low = omega arith; high = refl })
     (outer_below (take (length fs - 1) fs) f (subst AreApart (split_last fs f e) h.apart)) h
 
 -- it has so many variable arguments

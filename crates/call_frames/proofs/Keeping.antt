@@ -30,13 +30,13 @@ owner_is owner.Frozen owner.Frozen h = refl
 owner_is (owner.Script m) (owner.Script n) h = ap owner.Script (first_of (search rules, grind (arith, common_steps)))
 owner_is _ _ h = cc
 
-cell_is : (a b : CellId) → same a b ≡ true → a ≡ b
+pub cell_is : (a b : CellId) → same a b ≡ true → a ≡ b
 cell_is a b h = first_of (search (rules, owner_is), grind (arith, common_steps, owner_is))
 
-is_cell : (a b : CellId) → a ≡ b → same a b ≡ true
+pub is_cell : (a b : CellId) → a ≡ b → same a b ≡ true
 is_cell a b e = rw e (laws-law.refl b)
 
-is_other : (a b : CellId) → b ≢ a → same a b ≡ false
+pub is_other : (a b : CellId) → b ≢ a → same a b ≡ false
 is_other a b n = by (same a b) refl
   where
     by : (x : Bool) → same a b ≡ x → x ≡ false

@@ -4,3 +4,4 @@ pub mod Capturing
 pub mod Live
 pub mod Keeping
 pub mod Innermost
+pub mod Ending

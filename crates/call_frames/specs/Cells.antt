@@ -1,7 +1,8 @@
 -- Open cells.
-use Rattle.std.specs.Prelude.{◌≤◌, ℕ, zero, suc, ◌+◌, ◌-◌, ◌<◌, take, slice_get, IfSome, IsSomeAnd, Bool, true, false, cond, nat_lt, nat_eq, List, [], ◌∷◌, length, Option, Some, None, slice_index_or, slice_set}
+use Rattle.std.specs.Prelude.{◌≤◌, ℕ, zero, suc, ◌+◌, ◌-◌, ◌<◌, take, drop, replicate, ◌++◌, slice_get, IfSome, IsSomeAnd, Bool, true, false, cond, nat_lt, nat_eq, List, [], ◌∷◌, length, Option, Some, None, slice_index_or, slice_set}
 use Rattle.std.specs.Option.{option_map_or}
 use Rattle.value_model.specs.declared.ids.CellId.{CellId}
+use Rattle.value_model.specs.declared.ids.ClosureId.{ClosureId}
 use Rattle.value_model.specs.declared.ids.Owner.{Owner}
 use Rattle.value_model.specs.declared.value.Value.{Value}
 use Rattle.value_model.specs.declared.value.Value.TheVariants.{Nil}
@@ -9,6 +10,8 @@ use Rattle.value_model.specs.contracts.ids.CellIdPartialEq.TheImpl.{ghosts}
 use Rattle.value_arena.specs.Arenas.{ArenaView, HasCell, cell_at, with_cell, new_cell, next_cell}
 use Rattle.call_frames.specs.declared.frame.OpenCell.{OpenCell}
 use Rattle.call_frames.specs.declared.frame.Frame.{Frame}
+use Rattle.call_frames.specs.declared.frame.ReturnKind.{ReturnKind}
+use Rattle.call_frames.specs.declared.frame.ReturnKind.TheVariants.{Idle}
 use Rattle.call_frames.specs.Stacks.{StackView, AreBelow}
 
 -- whether two cells are one
@@ -156,3 +159,45 @@ local s r = register_at s (place_of s r)
 
 unfoldable pub with_local : StackView → ℕ → Value → StackView
 with_local s r v = record s { registers = slice_set s.registers (place_of s r) v }
+
+-- what it waits for is given to it so
+abbrev pub waiting : ReturnKind → StackView → StackView
+waiting kind = with_innermost (λ f. record f { kind = kind })
+
+-- ---- calls
+
+-- where the registers of the innermost frame end
+abbrev pub end_in : Option Frame → ℕ
+end_in None = 0
+end_in (Some f) = f.base + f.registers
+
+abbrev pub end_of : StackView → ℕ
+end_of s = end_in (innermost s)
+
+-- the frame of a function that is entered
+abbrev pub entered_frame : ClosureId → (base registers extra : ℕ) → Frame
+entered_frame c base n e = record { closure = Some c; base = base; registers = n; extra = e; place = 0; kind = Idle }
+
+-- A function is entered behind all frames: its variable arguments, and then its own registers, of which the first are given and the
+-- others nil
+unfoldable pub called : ClosureId → (registers : ℕ) → (given extra : List Value) → StackView → StackView
+called c n given extra s =
+    record s {
+      registers = take (end_of s) s.registers ++ extra ++ given ++ replicate (n - length given) Nil;
+      top = end_of s + length extra + length given;
+      frames = s.frames ++ entered_frame c (end_of s + length extra) n (length extra) ∷ [];
+    }
+
+-- values stand over those from a place on
+abbrev pub overlaid : List Value → (at : ℕ) → List Value → List Value
+overlaid regs at vs = take at regs ++ vs ++ drop (at + length vs) regs
+
+-- the innermost frame has the register, or it is the one behind its last
+abbrev pub HasPlace : StackView → ℕ → Type 0
+HasPlace s r = IsSomeAnd (innermost s) (λ f. r ≤ f.registers)
+
+-- values stand in the registers of the innermost frame from one on, its list of values ends behind them, and nothing else lies behind
+-- its own registers
+unfoldable pub delivered : (to : ℕ) → List Value → StackView → StackView
+delivered to vs s =
+    record s { registers = overlaid (take (end_of s) s.registers) (place_of s to) vs; top = place_of s to + length vs }

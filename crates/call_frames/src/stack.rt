@@ -1,6 +1,6 @@
 //! Stacks.
 
-ghost use Rattle.std.specs.Prelude.{◌≡◌, ◌+◌, ◌-◌, ◌<◌, ◌≤◌, ◌++◌, ◌∷◌, [], length, take, slice_index_or, slice_set, slice_get, IfOk, OnOk, OnErr, IfSome, OnSome, MatchOption, Some, None, max, replicate, ℕ};
+ghost use Rattle.std.specs.Prelude.{◌≡◌, ◌+◌, ◌-◌, ◌<◌, ◌≤◌, ◌++◌, ◌∷◌, [], length, take, drop, slice_index_or, slice_set, slice_get, IfOk, OnOk, OnErr, IfSome, OnSome, MatchOption, Some, None, max, replicate, ℕ};
 ghost use Rattle.std.specs.Option.{option_copied};
 ghost use Rattle.value_model.specs.declared.value.Value.TheVariants.{Nil};
 ghost use Rattle.value_arena.specs.Arenas as arenas;
@@ -157,6 +157,82 @@ impl Stack {
     {
         let last = self.frames.len() - 1;
         self.frames[last].place = place;
+    }
+
+    /// The innermost frame does something else with the values of the call that it waits for.
+    pub fn set_kind(&mut self, kind: ReturnKind)
+        requires { 0 < length self.old.frames }
+        ensures { self.new ≡ opens.waiting kind self.old }
+    {
+        let last = self.frames.len() - 1;
+        self.frames[last].kind = kind;
+    }
+
+    /// Where the registers of the innermost frame end, and 0 where there is none.
+    pub fn end(&self) -> usize
+        ensures value { result ≡ opens.end_of self.now }
+        ensures within { result ≤ length self.now.registers }
+    {
+        let depth = self.frames.len();
+        if depth == 0 {
+            return 0;
+        }
+        let frame = &self.frames[depth - 1];
+        frame.base + usize::from(frame.registers)
+    }
+
+    /// So many registers from one on.
+    pub fn values(&self, from: usize, count: usize) -> &[Value]
+        requires { from + count ≤ length self.now.registers }
+        ensures { result.now ≡ take count (drop from self.now.registers) }
+    {
+        &self.registers[from..from + count]
+    }
+
+    /// Enters a function behind all frames: first come its variable arguments, and then its own registers, of which the first
+    /// are given and the others nil. Its list of values ends behind those that are given.
+    pub fn call(
+        &mut self,
+        closure: ClosureId,
+        registers: u8,
+        given: &[Value],
+        extra: &[Value],
+    ) -> Result<(), OutOfMemory>
+        requires { length given.now ≤ registers }
+        ensures { OnOk result (self.new ≡ opens.called closure registers given.now extra.now self.old) }
+    {
+        let end = self.end();
+        self.frames.reserve(1)?;
+        self.top = end;
+        lay(&mut self.registers, end, extra, given, registers)?;
+        let base = end + extra.len();
+        self.top = base + given.len();
+        let frame = Frame {
+            closure: Some(closure),
+            base,
+            registers,
+            extra: extra.len(),
+            place: 0,
+            kind: ReturnKind::Idle,
+        };
+        match self.frames.push(frame) {
+            Ok(()) => Ok(()),
+            Err(_) => unreachable!(),
+        }
+    }
+
+    /// Values into the registers of the innermost frame from one on. Its list of values ends behind them, and registers that are
+    /// no frame's and lie behind that end go.
+    pub fn deliver(&mut self, to: u8, vs: &[Value]) -> Result<(), OutOfMemory>
+        requires { opens.HasPlace self.old to }
+        ensures { OnOk result (self.new ≡ opens.delivered to vs.now self.old) }
+    {
+        let end = self.end();
+        let at = self.frames[self.frames.len() - 1].base + usize::from(to);
+        self.top = end;
+        overlay(&mut self.registers, end, at, vs)?;
+        self.top = at + vs.len();
+        Ok(())
     }
 
     /// So many registers directly below those of the innermost frame are its variable arguments.
@@ -329,6 +405,47 @@ fn enter(registers: &mut Vec<Value>, top: usize, end: usize) -> Result<(), OutOf
         registers.resize(end, Value::Nil)?;
     }
     clear(registers.as_mut_slice(), top, end);
+    Ok(())
+}
+
+// Behind the end come values, and behind them so many registers, of which the first are given and the others nil.
+fn lay(
+    registers: &mut Vec<Value>,
+    end: usize,
+    extra: &[Value],
+    given: &[Value],
+    size: u8,
+) -> Result<(), OutOfMemory>
+    requires end { end ≤ length registers.old.items }
+    requires given { length given.now ≤ size }
+    ensures ok { OnOk result (registers.new.items ≡ take end registers.old.items ++ extra.now ++ given.now ++ replicate (size - length given.now) Nil) }
+    ensures kept { end ≤ length registers.new.items }
+{
+    registers.truncate(end);
+    registers.extend_from_slice(extra)?;
+    registers.extend_from_slice(given)?;
+    let size = registers.len() + (usize::from(size) - given.len());
+    registers.resize(size, Value::Nil)?;
+    Ok(())
+}
+
+// Values into registers from one on, of those up to the end or behind them.
+fn overlay(
+    registers: &mut Vec<Value>,
+    end: usize,
+    at: usize,
+    vs: &[Value],
+) -> Result<(), OutOfMemory>
+    requires end { end ≤ length registers.old.items }
+    requires at { at ≤ end }
+    ensures ok { OnOk result (registers.new.items ≡ opens.overlaid (take end registers.old.items) at vs.now) }
+    ensures within { OnOk result (at + length vs.now ≤ length registers.new.items) }
+    ensures kept { end ≤ length registers.new.items }
+{
+    registers.truncate(end);
+    let further = vs.len().saturating_sub(end - at);
+    registers.resize(end + further, Value::Nil)?;
+    registers[at..at + vs.len()].copy_from_slice(vs);
     Ok(())
 }
 

@@ -1,0 +1,13 @@
+pub mod Laid
+pub mod Registers
+pub mod Frames
+pub mod Written
+pub mod Beside
+pub mod Upvalues
+pub mod Captured
+pub mod Calling
+pub mod Results
+pub mod Changing
+pub mod Delivering
+pub mod Going
+pub mod Listing
