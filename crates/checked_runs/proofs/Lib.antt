@@ -1,3 +1,5 @@
 pub mod Lines
 pub mod Rules
 pub mod Places
+pub mod Elements
+pub mod Settings
