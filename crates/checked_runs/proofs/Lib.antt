@@ -3,3 +3,4 @@ pub mod Rules
 pub mod Places
 pub mod Elements
 pub mod Settings
+pub mod Outcomes
