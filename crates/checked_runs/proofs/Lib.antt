@@ -3,4 +3,5 @@ pub mod Rules
 pub mod Places
 pub mod Elements
 pub mod Settings
+pub mod Operations
 pub mod Outcomes
