@@ -5,3 +5,4 @@ pub mod Elements
 pub mod Settings
 pub mod Operations
 pub mod Outcomes
+pub mod Effects

@@ -1,5 +1,5 @@
 -- What operations on values and the library keep, so that code finds what it needs.
-use Rattle.std.specs.Prelude.{◌≡◌, ℕ, ◌<◌, Bool, false, List, [], ◌++◌, length}
+use Rattle.std.specs.Prelude.{◌≡◌, ℕ, ◌<◌, Bool, false, List, [], ◌++◌, length, Some}
 use Rattle.value_model.specs.declared.builtin.Builtin.{Builtin}
 use Rattle.value_model.specs.Values.{Value}
 use Rattle.value_model.specs.Store.{CoroutineOf, Store}
@@ -9,6 +9,7 @@ use Rattle.value_model.specs.Answers.{CoMove, Resume, Yield, Close, Whose, OfFun
 use Rattle.value_model.specs.Metamethods.{choose}
 use Rattle.value_model.specs.Library.{lib, go_on}
 use Rattle.machine_meaning.specs.Calls.{is_dead}
+use Rattle.machine_meaning.specs.Effects.{under, numbered}
 use Rattle.checked_runs.specs.Safe.{Each, IsMade, AreMade, IsStore, IsWait}
 
 -- the store keeps its functions and its coroutines, to which more may come that are not dead
@@ -69,15 +70,25 @@ pub record AnswersAreMade (n : ℕ) (s : Store) (vs : List Value) (t : Store) : 
   pub more : List CoroutineOf
   pub kept : Keeps n s t more
 
-abbrev pub AnswerIsMade : ℕ → Store → LibAnswer → Type 0
-AnswerIsMade n s (Answers vs t) = AnswersAreMade n s vs t
-AnswerIsMade n s (RaisesValue v origin) = IsMade n v
-AnswerIsMade n s (CallsBack callee args then) = IsMade n callee × AreMade n args × IsOwnWait n then
-AnswerIsMade n s (Moves m) = MoveIsMade n m
-AnswerIsMade n s (OnEnvironment u) = UseIsMade n u
-AnswerIsMade n s _ = Unit {0}
+-- what is known of an answer, where something holds of the values and the store that it gives
+abbrev pub AnswerWith : (P : List Value → Store → Type 0) → ℕ → LibAnswer → Type 0
+AnswerWith P n (Answers vs t) = P vs t
+AnswerWith P n (RaisesValue v origin) = IsMade n v
+AnswerWith P n (CallsBack callee args then) = IsMade n callee × AreMade n args × IsOwnWait n then
+AnswerWith P n (Moves m) = MoveIsMade n m
+AnswerWith P n (OnEnvironment u) = UseIsMade n u
+AnswerWith P n _ = Unit {0}
 
--- the library makes no function, and names no coroutine but those that it was given, has made or runs in
+abbrev pub AnswerIsMade : ℕ → Store → LibAnswer → Type 0
+AnswerIsMade n s a = AnswerWith (AnswersAreMade n s) n a
+
+-- so it is, and the store stays
+abbrev pub AnswerStays : ℕ → Store → LibAnswer → Type 0
+AnswerStays n s a = AnswerWith (λ vs t. AreMade n vs × (t ≡ s)) n a
+
+-- The library makes no function, and names no coroutine but those that it was given, has made or runs in. The functions that have
+-- numbers change nothing
 pub record LibraryKeeps : Type 0 where
   pub calls : (n : ℕ) (s : Store) (b : Builtin) (args : List Value) → IsStore n s → AreMade n args → AnswerIsMade n s (lib b args s)
   pub goes_on : (n : ℕ) (s : Store) (c : Continue) (v : Value) → IsStore n s → AreMade n c.arguments → IsMade n v → AnswerIsMade n s (go_on c v s)
+  pub fast : (n : ℕ) (s : Store) (k : ℕ) (b : Builtin) (args : List Value) → under numbered k ≡ Some b → IsStore n s → AreMade n args → AnswerStays n s (lib b args s)
