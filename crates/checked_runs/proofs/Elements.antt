@@ -16,6 +16,11 @@ module _ {X : Type 0} (P : X → Type 0) where
   each_or (y ∷ xs) zero d e f = e.0
   each_or (y ∷ xs) (suc i) d e f = each_or xs i d e.1 f
 
+  pub each_within : (xs : List X) (i : ℕ) (d : X) → i < length xs → Each P xs → P (get_or xs i d)
+  each_within [] i d l e = absurd (omega arith)
+  each_within (y ∷ xs) zero d l e = e.0
+  each_within (y ∷ xs) (suc i) d l e = each_within xs i d (omega arith) e.1
+
   pub each_set : (xs : List X) (i : ℕ) (x : X) → Each P xs → P x → Each P (set xs i x)
   each_set [] i x e f = tt
   each_set (y ∷ xs) zero x e f = (f, e.1)

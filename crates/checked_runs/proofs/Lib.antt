@@ -6,3 +6,6 @@ pub mod Settings
 pub mod Operations
 pub mod Outcomes
 pub mod Effects
+pub mod Growing
+pub mod Tables
+pub mod Closures

@@ -19,7 +19,7 @@ three false b c e = absurd cc
 
 -- ---- what follows
 
-not_last : (n : ℕ) (before : List Line) (l : Line) → fall_faults n (before ++ l ∷ []) ≡ [] → is_end l.insn ≡ true
+pub not_last : (n : ℕ) (before : List Line) (l : Line) → fall_faults n (before ++ l ∷ []) ≡ [] → is_end l.insn ≡ true
 not_last n [] l e = by (is_end l.insn) e
   where
     by : (b : Bool) → at_place n l.place (unless b 10) ≡ [] → b ≡ true
@@ -28,7 +28,7 @@ not_last n [] l e = by (is_end l.insn) e
 not_last n (m ∷ []) l e = not_last n [] l e
 not_last n (m ∷ k ∷ before) l e = not_last n (k ∷ before) l e
 
-falls : (b : Bool) (n : ℕ) (ls : List Line) → end_faults b n ls ≡ [] → fall_faults n ls ≡ []
+pub falls : (b : Bool) (n : ℕ) (ls : List Line) → end_faults b n ls ≡ [] → fall_faults n ls ≡ []
 falls true n ls e = e
 falls false n ls e = absurd cc
 
