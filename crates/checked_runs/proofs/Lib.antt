@@ -9,3 +9,5 @@ pub mod Effects
 pub mod Growing
 pub mod Tables
 pub mod Closures
+pub mod Waits
+pub mod Constants
