@@ -156,7 +156,7 @@ behind_captures chunk n p s before l (m ∷ after) split goes none =
       runs = none_leads (is_capture m.insn) (leading after) none;
     }
 
-all_captured : {chunk : ChunkOf} {z : Sizes} {p : ProtoOf} {fs : List Frame} (n : ℕ) → IsSound chunk n p → (more count total : ℕ) → count + more ≡ total
+pub all_captured : {chunk : ChunkOf} {z : Sizes} {p : ProtoOf} {fs : List Frame} (n : ℕ) → IsSound chunk n p → (more count total : ℕ) → count + more ≡ total
     → (before : List Line) (l : Line) (after : List Line) → lines p.code ≡ before ++ l ∷ after → is_end l.insn ≡ false → leading after ≡ more
     → (t : Taken) → IsTaken chunk z p fs count t → IsCaptured chunk z p fs total (captures p.code more l.next t)
 all_captured {chunk} {z} {p} {fs} n s zero count total sum before l after split goes lead t is = record {

@@ -11,3 +11,5 @@ pub mod Tables
 pub mod Closures
 pub mod Waits
 pub mod Constants
+pub mod Children
+pub mod Rows
