@@ -13,3 +13,4 @@ pub mod Waits
 pub mod Constants
 pub mod Children
 pub mod Rows
+pub mod Settled

@@ -70,18 +70,16 @@ module _ (n : ℕ) where
     environments = refl;
     running = refl;
     coroutines = sym (append-nil s.coroutines);
-    alive = tt;
   }
   with_table_keeps s (Own i) t is m = record {
     store = record { shared = is.shared; tables = each_set (IsTable n) s.tables i t is.tables m; coroutines = is.coroutines; some = is.some; running = is.running; main = is.main };
     environments = refl;
     running = refl;
     coroutines = sym (append-nil s.coroutines);
-    alive = tt;
   }
 
   pub keeps_itself : (s : Store) → IsStore n s → Keeps n s s []
-  keeps_itself s is = record { store = is; environments = refl; running = refl; coroutines = sym (append-nil s.coroutines); alive = tt }
+  keeps_itself s is = record { store = is; environments = refl; running = refl; coroutines = sym (append-nil s.coroutines) }
 
   -- ---- metamethods
 

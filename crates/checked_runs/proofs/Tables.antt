@@ -29,7 +29,6 @@ new_table_keeps n s t is m = record {
   environments = refl;
   running = refl;
   coroutines = sym (append-nil s.coroutines);
-  alive = tt;
 }
 
 listed_made : (n : ℕ) (t : Result TableOf RunError) (key : ℕ) (vs : List Value) → IfOk t (IsTable n) → AreMade n vs → IfOk (set_list t key vs) (IsTable n)

@@ -8,17 +8,15 @@ use Rattle.value_model.specs.Choices.{Operation, Index, Newindex, Arith, Compare
 use Rattle.value_model.specs.Answers.{CoMove, Resume, Yield, Close, Whose, OfFunction, EnvironmentUse, Reads, Replaces, LibAnswer, Answers, RaisesValue, CallsBack, Moves, OnEnvironment}
 use Rattle.value_model.specs.Metamethods.{choose}
 use Rattle.value_model.specs.Library.{lib, go_on}
-use Rattle.machine_meaning.specs.Calls.{is_dead}
 use Rattle.machine_meaning.specs.Effects.{under, numbered}
 use Rattle.checked_runs.specs.Safe.{Each, IsMade, AreMade, IsStore, IsWait}
 
--- the store keeps its functions and its coroutines, to which more may come that are not dead
+-- the store keeps its functions and its coroutines, to which more may come
 pub record Keeps (n : ℕ) (s t : Store) (more : List CoroutineOf) : Type 0 where
   pub store : IsStore n t
   pub environments : length t.closures ≡ length s.closures
   pub running : t.running ≡ s.running
   pub coroutines : t.coroutines ≡ s.coroutines ++ more
-  pub alive : Each (λ (c : CoroutineOf). is_dead c.status ≡ false) more
 
 -- ---- operations
 
