@@ -14,3 +14,4 @@ pub mod Constants
 pub mod Children
 pub mod Rows
 pub mod Settled
+pub mod Deciding
