@@ -13,7 +13,7 @@ use Rattle.value_model.specs.Values.{Bytes, TableRef, Value, Nil, Boolean, Numbe
 use Rattle.value_model.specs.Errors.{RunError}
 use Rattle.value_model.specs.Store.{Store, CoroutineOf, here, place_of_running}
 use Rattle.value_model.specs.CoroutineRows.{coroutine_of, with_coroutine, dead}
-use Rattle.value_model.specs.Waits.{Wait, Runs, Protects, Guards, Handles, Resumes, Asks, Waits, waiting, with_waiting, leave, await, Caller, ByScript, ByLibrary, Case, Called, Given, Passed, Thrown, Fails, Raises, Elsewise, Answer, Gives, Enters, Calls, Throws, Stops, Finishes, Dies, Waited, innermost_function}
+use Rattle.value_model.specs.Waits.{Wait, Runs, Protects, Guards, Handles, Resumes, Asks, Waits, waiting, with_waiting, leave, await, Caller, ByScript, ByLibrary, Case, Called, Given, Passed, Thrown, Fails, Raises, Elsewise, Answer, Gives, Enters, Calls, Throws, Stops, Finishes, Dies, Waited, innermost_function, first_of}
 use Rattle.value_model.specs.Choices.{Outcome, Done, CallThis, Errs, Halts}
 use Rattle.value_model.specs.Answers.{CoMove, Resume, Yield, Close, Whose, Innermost, OfFunction, OfScript, EnvironmentUse, Reads, Replaces, LibAnswer, Answers, PrintsLine, ErrsWith, RaisesValue, HaltsWith, CallsBack, Moves, OnEnvironment}
 use Rattle.value_model.specs.Metamethods.{callee_of}
@@ -21,7 +21,7 @@ use Rattle.value_model.specs.Library.{lib, go_on}
 use Rattle.value_model.specs.Waiting as deciding
 use Rattle.op_words.specs.Chunks.{ChunkOf}
 use Rattle.machine_meaning.specs.States.{Frame}
-use Rattle.machine_meaning.specs.Calls.{is_dead}
+use Rattle.machine_meaning.specs.Calls.{is_dead, is_function}
 use Rattle.checked_runs.specs.Safe.{Each, Sizes, IsMade, AreMade, IsResumer, IsCoroutine, IsStore, IsWait, AreStacked}
 use Rattle.checked_runs.specs.Keeps.{Keeps, OutcomeIsMade, MoveIsMade, WhoseIsMade, UseIsMade, AnswerIsMade, LibraryKeeps}
 use Rattle.checked_runs.proofs.Elements.{each_or, each_append}
@@ -161,3 +161,64 @@ module _ {chunk : ChunkOf} {z : Sizes} {frames : ℕ → List Frame} where
   callees (Errs e) args m a i = record { answer = tt; settled = i }
   callees (Done f) args m a i = record { answer = (m, a); settled = i }
   callees (Halts stop) args m a i = record { answer = tt; settled = i }
+
+-- ---- the cases
+
+first_made : (n : ℕ) (vs : List Value) → AreMade n vs → IsMade n (deciding.first_value vs)
+first_made n [] m = tt
+first_made n (v ∷ vs) m = m.0
+
+abbrev pub is_closure : Value → Bool
+is_closure (Closure f) = true
+is_closure v = false
+
+module _ {chunk : ChunkOf} {z : Sizes} {frames : ℕ → List Frame} (library : LibraryKeeps) {s : Store} {ws : Waits} (i : IsSettled chunk z s ws frames) where
+  calls_none : (f : Value) (args : List Value) → IsMade z.functions f → AreMade z.functions args → IsWaited chunk z frames (deciding.by_callee (callee_of s f) args ws s)
+  calls_none f args m a = callees (callee_of s f) args (callee_made z.functions s f i.store m) a i
+
+  -- what is no function of the script is called
+  pub called_settled : (by : Caller) (f : Value) (args : List Value) (r : Option Reply) → is_closure f ≡ false → IsMade z.functions f → AreMade z.functions args
+      → IsWaited chunk z frames (deciding.called by f args r ws s)
+  called_settled by (Closure f) args r e m a = absurd cc
+  called_settled ByLibrary (Native f) args r e m a = record { answer = (tt, a); settled = i }
+  called_settled ByScript (Native f) args r e m a = libraries (lib f args s) (library.calls z.functions s f args i.store a) i
+  called_settled ByLibrary (Host f) args r e m a = record { answer = (tt, a); settled = i }
+  called_settled ByScript (Host f) args r e m a = hosts _ (deciding.plain_arguments 0 args) r i
+  called_settled by (Wrap k) args r e m a = resumes_by (coroutine_of s k).status true k args refl m a i
+  called_settled by Nil args r e m a = calls_none Nil args m a
+  called_settled by (Boolean b) args r e m a = calls_none (Boolean b) args m a
+  called_settled by (Number b) args r e m a = calls_none (Number b) args m a
+  called_settled by (Text b) args r e m a = calls_none (Text b) args m a
+  called_settled by (Table b) args r e m a = calls_none (Table b) args m a
+  called_settled by (Thread b) args r e m a = calls_none (Thread b) args m a
+
+  at_here : (l : List Wait) → waiting ws (here s) ≡ l → AreStacked chunk z l (frames (here s))
+  at_here l e = subst (λ l. AreStacked chunk z l (frames (here s))) e (i.stacked (here s))
+
+  each_here : (l : List Wait) → waiting ws (here s) ≡ l → Each (IsWait z.functions) l
+  each_here l e = subst (Each (IsWait z.functions)) e (each_or (Each (IsWait z.functions)) ws (here s) [] i.each tt)
+
+  -- values are given to what waits
+  pub given_settled : (l : List Wait) (vs : List Value) → waiting ws (here s) ≡ l → AreMade z.functions vs → IsWaited chunk z frames (deciding.given l vs ws s)
+  given_settled [] vs e m = finishes s.running vs refl m i
+  given_settled (Runs f ∷ l) vs e m = record { answer = m; settled = i }
+  given_settled (Protects ∷ l) vs e m = record { answer = (tt, m); settled = settled_over Protects l i e (at_here (Protects ∷ l) e) }
+  given_settled (Guards h ∷ l) vs e m = record { answer = (tt, m); settled = settled_over (Guards h) l i e (at_here (Guards h ∷ l) e) }
+  given_settled (Handles ∷ l) vs e m =
+      record { answer = (tt, (first_made z.functions vs m, tt)); settled = settled_over Handles l i e (at_here (Handles ∷ l) e) }
+  given_settled (Resumes true ∷ l) vs e m = record { answer = m; settled = settled_over (Resumes true) l i e (at_here (Resumes true ∷ l) e) }
+  given_settled (Resumes false ∷ l) vs e m = record { answer = (tt, m); settled = settled_over (Resumes false) l i e (at_here (Resumes false ∷ l) e) }
+  given_settled (Asks c ∷ l) vs e m =
+      libraries (go_on c (deciding.first_value vs) s) (library.goes_on z.functions s c (deciding.first_value vs) i.store (each_here (Asks c ∷ l) e).0 (first_made z.functions vs m)) (settled_over (Asks c) l i e (at_here (Asks c ∷ l) e))
+
+  -- an error passes what waits, which is no function of the script
+  pub passed_settled : (l : List Wait) (v : Value) → waiting ws (here s) ≡ l → is_function (first_of l) ≡ false → IsMade z.functions v → IsWaited chunk z frames (deciding.passed l v ws s)
+  passed_settled [] v e f m = dies s.running v refl m i
+  passed_settled (Runs c ∷ l) v e f m = absurd cc
+  passed_settled (Protects ∷ l) v e f m = record { answer = (tt, (m, tt)); settled = settled_over Protects l i e (at_here (Protects ∷ l) e) }
+  passed_settled (Guards h ∷ l) v e f m =
+      record { answer = ((each_here (Guards h ∷ l) e).0, (m, tt)); settled = settled_await Handles (settled_over (Guards h) l i e (at_here (Guards h ∷ l) e)) tt }
+  passed_settled (Handles ∷ l) v e f m = record { answer = (tt, (m, tt)); settled = settled_over Handles l i e (at_here (Handles ∷ l) e) }
+  passed_settled (Resumes true ∷ l) v e f m = record { answer = m; settled = settled_over (Resumes true) l i e (at_here (Resumes true ∷ l) e) }
+  passed_settled (Resumes false ∷ l) v e f m = record { answer = (tt, (m, tt)); settled = settled_over (Resumes false) l i e (at_here (Resumes false ∷ l) e) }
+  passed_settled (Asks c ∷ l) v e f m = record { answer = m; settled = settled_over (Asks c) l i e (at_here (Asks c ∷ l) e) }

@@ -15,3 +15,4 @@ pub mod Children
 pub mod Rows
 pub mod Settled
 pub mod Deciding
+pub mod Asking
