@@ -16,3 +16,4 @@ pub mod Rows
 pub mod Settled
 pub mod Deciding
 pub mod Asking
+pub mod Steps
