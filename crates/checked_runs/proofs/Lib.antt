@@ -17,3 +17,4 @@ pub mod Settled
 pub mod Deciding
 pub mod Asking
 pub mod Steps
+pub mod Arguments
