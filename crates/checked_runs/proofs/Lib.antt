@@ -18,3 +18,7 @@ pub mod Deciding
 pub mod Asking
 pub mod Steps
 pub mod Arguments
+pub mod Reading
+pub mod Texts
+pub mod Writing
+pub mod Library
