@@ -59,7 +59,7 @@ meant_made n Innermost ws m e = innermost_made n ws e
 meant_made n (OfFunction f) ws m e = m
 meant_made n OfScript ws m e = tt
 
-plain_made : (n : ℕ) (v : Plain) → IsMade n (value_of v)
+pub plain_made : (n : ℕ) (v : Plain) → IsMade n (value_of v)
 plain_made n plain.Nil = tt
 plain_made n (plain.Bool b) = tt
 plain_made n (plain.Num z) = tt

@@ -16,9 +16,11 @@ pub mod Rows
 pub mod Settled
 pub mod Deciding
 pub mod Asking
-pub mod Steps
 pub mod Arguments
 pub mod Reading
 pub mod Texts
 pub mod Writing
 pub mod Library
+pub mod Steps
+pub mod Loaded
+pub mod Never

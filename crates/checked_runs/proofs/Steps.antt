@@ -18,6 +18,8 @@ use Rattle.machine_meaning.specs.Steps.{code_of, act, act_charged, rows, inside,
 use Rattle.checked_runs.specs.Places.{IsPlace}
 use Rattle.checked_runs.specs.Safe.{Sizes, IsMade, AreMade, IsFrame, Awaits, AreStacked, AreLeft, IsWorld, IsActive, IsLoop, AreDoing, IsSafe, IsSafeMove, is_loop}
 use Rattle.checked_runs.specs.Keeps.{LibraryKeeps}
+use Rattle.checked_runs.specs.Laws.{StepsStaySafe}
+use Rattle.checked_runs.proofs.Library.{library_keeps}
 use Rattle.checked_runs.proofs.Rules.{IsSound, proto_sound}
 use Rattle.checked_runs.proofs.Places.{Stands, stands_at, goes_on, leads}
 use Rattle.checked_runs.proofs.Settings.{Setting}
@@ -126,5 +128,5 @@ module _ {chunk : ChunkOf} (well : IsWellFormed chunk) (library : LibraryKeeps) 
   moves_safe (Fault e) fs d = record { sizes = z; world = world; doing = (tt, d) }
   moves_safe (Raise v) fs d = raises (is_function (innermost w.waits (store_of w))) v fs refl d.0 d.1
 
-pub step_safe : (chunk : ChunkOf) → IsWellFormed chunk → LibraryKeeps → (s : State) → IsSafe chunk s → IsSafeMove chunk (step chunk s)
-step_safe chunk well library s i = moves_safe well library i.world s.focus s.functions i.doing
+pub steps_stay_safe : StepsStaySafe
+steps_stay_safe chunk well s i = moves_safe well library_keeps i.world s.focus s.functions i.doing

@@ -1,2 +1,6 @@
-//! Well-formed code is never stuck: the states that it reaches, and the laws that it reaches no others.
+//! Well-formed code is never stuck: the states that it comes to, and the laws that it comes to no others and has a rule in each.
 #![tactic(auto)]
+
+mod laws;
+
+pub use laws::{code_is_never_stuck, loaded_is_safe, steps_stay_safe};

@@ -1,0 +1,43 @@
+-- A run of well-formed code is never stuck.
+use Rattle.std.proofs.Common.{◌≡◌, ◌≢◌, refl, sym, ap, ◌∙◌, ℕ, zero, suc, List, [], ◌∷◌, ◌++◌, Option, Some, None, subst}
+use Rattle.value_model.specs.declared.event.EventKind.{EventKind}
+use Rattle.value_model.specs.Waits.{End, Unfinished, Stuck}
+use Rattle.bounded_runs.specs.Runs.{Stamped, Report, Move, Goes, Shows, Charges, Ends, Rest, after, run}
+use Rattle.op_words.specs.Chunks.{ChunkOf}
+use Rattle.machine_meaning.specs.WellFormed.{IsWellFormed}
+use Rattle.machine_meaning.specs.States.{State}
+use Rattle.machine_meaning.specs.Moves.{Look, Step}
+use Rattle.machine_meaning.specs.Steps.{step}
+use Rattle.machine_meaning.specs.Runs.{loaded}
+use Rattle.checked_runs.specs.Safe.{IsSafe, IsSafeMove}
+use Rattle.checked_runs.specs.Laws.{CodeIsNeverStuck}
+use Rattle.checked_runs.proofs.Steps.{steps_stay_safe}
+use Rattle.checked_runs.proofs.Loaded.{loaded_is_safe}
+
+-- the rest of a run from a safe state is not stuck
+NeverStuck : ChunkOf → Rest EventKind Look State → Type 0
+NeverStuck chunk rest = (left spent : ℕ) (out : List (Stamped EventKind)) (notes : List Look) (s : State) (r : Report EventKind Look) → IsSafe chunk s → rest left spent out notes s ≡ Some r → r.end ≢ Stuck
+
+after_move : (chunk : ChunkOf) (rest : Rest EventKind Look State) → NeverStuck chunk rest → (m : Step) (left spent : ℕ) (out : List (Stamped EventKind)) (notes : List Look) (r : Report EventKind Look)
+    → IsSafeMove chunk m → after m rest left spent out notes ≡ Some r → r.end ≢ Stuck
+unfolding NeverStuck
+after_move chunk rest h (Goes ns s) left spent out notes r i e = h left spent out (notes ++ ns) s r i e
+after_move chunk rest h (Shows ns v s) left spent out notes r i e = h left spent _ (notes ++ ns) s r i e
+after_move chunk rest h (Charges s) zero spent out notes r i e =
+    let same : record { end = Unfinished; events = out; notes = notes } ≡ r = cc in
+    λ g. let no : Unfinished ≡ Stuck = ap (λ (r : Report EventKind Look). r.end) same ∙ g in absurd cc
+after_move chunk rest h (Charges s) (suc left) spent out notes r i e = h left (suc spent) out notes s r i e
+after_move chunk rest h (Ends ns end) left spent out notes r i e =
+    let same : record { end = end; events = out; notes = notes ++ ns } ≡ r = cc in
+    λ g. i (ap (λ (r : Report EventKind Look). r.end) same ∙ g)
+
+never_stuck : (chunk : ChunkOf) → IsWellFormed chunk → (moves : ℕ) → NeverStuck chunk (run (step chunk) moves)
+unfolding NeverStuck
+never_stuck chunk well zero left spent out notes s r i e = absurd cc
+never_stuck chunk well (suc k) left spent out notes s r i e =
+    after_move chunk (run (step chunk) k) (never_stuck chunk well k) (step chunk s) left spent out notes r (steps_stay_safe chunk well s i) e
+
+pub code_is_never_stuck : CodeIsNeverStuck
+unfolding NeverStuck
+code_is_never_stuck chunk well host replies n r run =
+    never_stuck chunk well run.0 n 0 [] [] (loaded chunk host replies) r (loaded_is_safe chunk well host replies) run.1

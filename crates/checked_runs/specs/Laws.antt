@@ -1,0 +1,26 @@
+-- What holds of runs of well-formed code.
+use Rattle.std.specs.Prelude.{◌≢◌, ℕ, List}
+use Rattle.op_words.specs.Chunks.{ChunkOf}
+use Rattle.value_model.specs.declared.event.EventKind.{EventKind}
+use Rattle.value_model.specs.declared.event.Reply.{Reply}
+use Rattle.value_model.specs.Fresh.{HostFields}
+use Rattle.value_model.specs.Waits.{Stuck}
+use Rattle.bounded_runs.specs.Runs.{Report}
+use Rattle.machine_meaning.specs.WellFormed.{IsWellFormed}
+use Rattle.machine_meaning.specs.States.{State}
+use Rattle.machine_meaning.specs.Moves.{Look}
+use Rattle.machine_meaning.specs.Steps.{step}
+use Rattle.machine_meaning.specs.Runs.{loaded, MachineRun}
+use Rattle.checked_runs.specs.Safe.{IsSafe, IsSafeMove}
+
+-- a run of well-formed code begins in a safe state
+abbrev pub LoadedIsSafe : Type 0
+LoadedIsSafe = (chunk : ChunkOf) → IsWellFormed chunk → (host : HostFields) (replies : List Reply) → IsSafe chunk (loaded chunk host replies)
+
+-- from a safe state there is a rule for what is done, and it leads to a safe state
+abbrev pub StepsStaySafe : Type 0
+StepsStaySafe = (chunk : ChunkOf) → IsWellFormed chunk → (s : State) → IsSafe chunk s → IsSafeMove chunk (step chunk s)
+
+-- so no run of well-formed code ends for lack of a rule, whatever the bound on its turns
+abbrev pub CodeIsNeverStuck : Type 0
+CodeIsNeverStuck = (chunk : ChunkOf) → IsWellFormed chunk → (host : HostFields) (replies : List Reply) (n : ℕ) (r : Report EventKind Look) → MachineRun chunk host replies n r → r.end ≢ Stuck

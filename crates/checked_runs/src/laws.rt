@@ -1,0 +1,18 @@
+//! Laws of the runs of well-formed code.
+
+ghost use Rattle.checked_runs.specs.Laws.{CodeIsNeverStuck, LoadedIsSafe, StepsStaySafe};
+
+/// Well-formed code is loaded into a safe state.
+pub fn loaded_is_safe()
+    ensures { LoadedIsSafe }
+{}
+
+/// From a safe state well-formed code has a rule for what it does, and it leads to a safe state.
+pub fn steps_stay_safe()
+    ensures { StepsStaySafe }
+{}
+
+/// A run of well-formed code never ends for lack of a rule, whatever the bound on its turns.
+pub fn code_is_never_stuck()
+    ensures { CodeIsNeverStuck }
+{}
