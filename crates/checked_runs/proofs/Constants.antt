@@ -13,6 +13,7 @@ use Rattle.machine_meaning.specs.Chunks.{proto_at}
 use Rattle.machine_meaning.specs.Constants.{constant_at, value_of, known, text_in, name_at, all_some, indices_of, path_of}
 use Rattle.machine_meaning.specs.Needs.{Want, AValue, AName, ANumber, AnImport, is_wanted, finds, is_spare, is_import, is_sound}
 use Rattle.checked_runs.specs.Safe.{IsMade}
+use Rattle.checked_runs.specs.Operands.{IsConstant}
 use Rattle.checked_runs.proofs.Rules.{both, IsSound}
 use Rattle.checked_runs.proofs.Places.{three}
 
@@ -20,13 +21,6 @@ pub all_at : {X : Type 0} (f : X → Bool) (xs : List X) (i : ℕ) (x : X) → l
 all_at f [] i x e g = absurd cc
 all_at f (y ∷ xs) zero x e g = let same : y ≡ x = cc in ap f (sym same) ∙ (both (f y) _ e).0
 all_at f (y ∷ xs) (suc i) x e g = all_at f xs i x (both (f y) _ e).1 g
-
--- a constant with what is known of it
-pub record IsConstant (chunk : ChunkOf) (n : ℕ) (k : ℤ) (w : Want) : Type 0 where
-  pub constant : Const
-  pub is : constant_at chunk n k ≡ Some constant
-  pub wanted : is_wanted w (Some constant) ≡ true
-  pub sound : is_sound chunk n constant ≡ true
 
 none_wanted : (w : Want) → is_wanted w None ≡ false
 none_wanted AValue = refl

@@ -24,3 +24,4 @@ pub mod Library
 pub mod Steps
 pub mod Loaded
 pub mod Never
+pub mod Operands

@@ -10,7 +10,9 @@ use Rattle.machine_meaning.specs.Moves.{Look, Step}
 use Rattle.machine_meaning.specs.Steps.{step}
 use Rattle.machine_meaning.specs.Runs.{loaded}
 use Rattle.checked_runs.specs.Safe.{IsSafe, IsSafeMove}
-use Rattle.checked_runs.specs.Laws.{CodeIsNeverStuck}
+use Rattle.checked_runs.specs.Operands.{state_after, reached}
+use Rattle.checked_runs.specs.Laws.{CodeIsNeverStuck, ReachedIsSafe}
+use Rattle.std.specs.Option.{option_and_then}
 use Rattle.checked_runs.proofs.Steps.{steps_stay_safe}
 use Rattle.checked_runs.proofs.Loaded.{loaded_is_safe}
 
@@ -41,3 +43,21 @@ pub code_is_never_stuck : CodeIsNeverStuck
 unfolding NeverStuck
 code_is_never_stuck chunk well host replies n r run =
     never_stuck chunk well run.0 n 0 [] [] (loaded chunk host replies) r (loaded_is_safe chunk well host replies) run.1
+
+-- ---- the states that a run comes to
+
+next_safe : (chunk : ChunkOf) (m : Step) → IsSafeMove chunk m → (t : State) → state_after m ≡ Some t → IsSafe chunk t
+next_safe chunk (Goes ns s) i t e = let same : s ≡ t = cc in subst (IsSafe chunk) same i
+next_safe chunk (Shows ns v s) i t e = let same : s ≡ t = cc in subst (IsSafe chunk) same i
+next_safe chunk (Charges s) i t e = let same : s ≡ t = cc in subst (IsSafe chunk) same i
+next_safe chunk (Ends ns end) i t e = absurd cc
+
+stepped : (chunk : ChunkOf) → IsWellFormed chunk → (o : Option State) → ((s : State) → o ≡ Some s → IsSafe chunk s) → (t : State) → option_and_then (λ s. state_after (step chunk s)) o ≡ Some t → IsSafe chunk t
+stepped chunk well None h t e = absurd cc
+stepped chunk well (Some s) h t e = next_safe chunk (step chunk s) (steps_stay_safe chunk well s (h s refl)) t e
+
+pub reached_is_safe : ReachedIsSafe
+reached_is_safe chunk well host replies zero s e =
+    let same : loaded chunk host replies ≡ s = cc in subst (IsSafe chunk) same (loaded_is_safe chunk well host replies)
+reached_is_safe chunk well host replies (suc k) s e =
+    stepped chunk well (reached chunk host replies k) (λ s e. reached_is_safe chunk well host replies k s e) s e

@@ -32,7 +32,7 @@ use Rattle.checked_runs.proofs.Settings.{Setting, with_registers, with_values, w
 use Rattle.checked_runs.proofs.Effects.{jumps, branches, jumps_back, indexes, newindexes, calculates, compares, measures, decides, imports, list_made, calls, gives_results, prepares, iterates, calls_fast}
 use Rattle.checked_runs.proofs.Tables.{makes_table, stores_list, iteration_made}
 use Rattle.checked_runs.proofs.Waits.{hands_back}
-use Rattle.checked_runs.proofs.Constants.{IsConstant, constant_found, IsKnown, value_known, number_known, IsNamed, name_known, path_known}
+use Rattle.checked_runs.proofs.Constants.{constant_found, IsKnown, value_known, number_known, IsNamed, name_known, path_known}
 use Rattle.checked_runs.proofs.Children.{closes_over, IsCallOver, call_found}
 
 closed_made : (z : Sizes) (cells : List Value) (g : Register) (b : Bool) → IsRegister z g → IsMade z.functions (held cells g) → IsRegister z (if b then g else Val (held cells g))

@@ -1,5 +1,5 @@
 -- What holds of runs of well-formed code.
-use Rattle.std.specs.Prelude.{◌≢◌, ℕ, List}
+use Rattle.std.specs.Prelude.{◌≡◌, ◌≢◌, ℕ, List, ◌∷◌, Some}
 use Rattle.op_words.specs.Chunks.{ChunkOf}
 use Rattle.value_model.specs.declared.event.EventKind.{EventKind}
 use Rattle.value_model.specs.declared.event.Reply.{Reply}
@@ -7,11 +7,12 @@ use Rattle.value_model.specs.Fresh.{HostFields}
 use Rattle.value_model.specs.Waits.{Stuck}
 use Rattle.bounded_runs.specs.Runs.{Report}
 use Rattle.machine_meaning.specs.WellFormed.{IsWellFormed}
-use Rattle.machine_meaning.specs.States.{State}
+use Rattle.machine_meaning.specs.States.{Frame, Run, State}
 use Rattle.machine_meaning.specs.Moves.{Look}
 use Rattle.machine_meaning.specs.Steps.{step}
 use Rattle.machine_meaning.specs.Runs.{loaded, MachineRun}
 use Rattle.checked_runs.specs.Safe.{IsSafe, IsSafeMove}
+use Rattle.checked_runs.specs.Operands.{HasOperands, reached}
 
 -- a run of well-formed code begins in a safe state
 abbrev pub LoadedIsSafe : Type 0
@@ -24,3 +25,12 @@ StepsStaySafe = (chunk : ChunkOf) → IsWellFormed chunk → (s : State) → IsS
 -- so no run of well-formed code ends for lack of a rule, whatever the bound on its turns
 abbrev pub CodeIsNeverStuck : Type 0
 CodeIsNeverStuck = (chunk : ChunkOf) → IsWellFormed chunk → (host : HostFields) (replies : List Reply) (n : ℕ) (r : Report EventKind Look) → MachineRun chunk host replies n r → r.end ≢ Stuck
+
+-- each state that a run of well-formed code comes to is safe
+abbrev pub ReachedIsSafe : Type 0
+ReachedIsSafe = (chunk : ChunkOf) → IsWellFormed chunk → (host : HostFields) (replies : List Reply) (moves : ℕ) (s : State) → reached chunk host replies moves ≡ Some s → IsSafe chunk s
+
+-- where the function that runs stands in a safe state there is an instruction, and all that it names is there: each register is the
+-- function's own, each constant is of the kind that is wanted, and each jump leads to an instruction
+abbrev pub OperandsAreThere : Type 0
+OperandsAreThere = (chunk : ChunkOf) → IsWellFormed chunk → (s : State) → IsSafe chunk s → s.focus ≡ Run → (f : Frame) (fs : List Frame) → s.functions ≡ f ∷ fs → HasOperands chunk f

@@ -1,6 +1,6 @@
 //! Laws of the runs of well-formed code.
 
-ghost use Rattle.checked_runs.specs.Laws.{CodeIsNeverStuck, LoadedIsSafe, StepsStaySafe};
+ghost use Rattle.checked_runs.specs.Laws.{CodeIsNeverStuck, LoadedIsSafe, OperandsAreThere, ReachedIsSafe, StepsStaySafe};
 
 /// Well-formed code is loaded into a safe state.
 pub fn loaded_is_safe()
@@ -15,4 +15,14 @@ pub fn steps_stay_safe()
 /// A run of well-formed code never ends for lack of a rule, whatever the bound on its turns.
 pub fn code_is_never_stuck()
     ensures { CodeIsNeverStuck }
+{}
+
+/// Each state that a run of well-formed code comes to is safe.
+pub fn reached_is_safe()
+    ensures { ReachedIsSafe }
+{}
+
+/// Where the function that runs stands in a safe state there is an instruction, and all that it names is there.
+pub fn operands_are_there()
+    ensures { OperandsAreThere }
 {}

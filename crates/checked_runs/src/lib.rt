@@ -3,4 +3,6 @@
 
 mod laws;
 
-pub use laws::{code_is_never_stuck, loaded_is_safe, steps_stay_safe};
+pub use laws::{
+    code_is_never_stuck, loaded_is_safe, operands_are_there, reached_is_safe, steps_stay_safe,
+};
