@@ -1,15 +1,15 @@
 -- What the library does with its arguments, where its answer is known of all that they may be.
-use Rattle.std.proofs.Common.{◌≡◌, refl, sym, ap, ◌∙◌, ℕ, zero, suc, ◌<◌, ℤ, Bool, true, false, List, [], ◌∷◌, Option, Some, None, Ok, Err}
+use Rattle.std.proofs.Common.{ℕ, zero, suc, ◌<◌, ℤ, Bool, true, false, List, [], ◌∷◌, Option, Some, None, Ok, Err}
 use Rattle.std.specs.Prelude.{MatchOption, slice_get}
 use Rattle.value_model.specs.declared.builtin.Builtin.{Builtin}
 use Rattle.value_model.specs.declared.error.Wanted.{Wanted}
 use Rattle.whole_num.specs.NumberTexts.{ReadNumber}
-use Rattle.value_model.specs.Values.{Bytes, TableRef, Value, Nil, Boolean, Number, Text, Table, Closure, Native, Host, Wrap, Thread}
+use Rattle.value_model.specs.Values.{Bytes, TableRef, Value, Nil, Table, Thread}
 use Rattle.value_model.specs.Store.{Store}
 use Rattle.value_model.specs.Metamethods.{as_number, as_text, is_function}
 use Rattle.value_model.specs.Answers.{LibAnswer}
 use Rattle.value_model.specs.Arguments as arguments
-use Rattle.checked_runs.specs.Safe.{Each, IsMade, AreMade}
+use Rattle.checked_runs.specs.Safe.{IsMade, AreMade}
 use Rattle.checked_runs.specs.Keeps.{AnswerWith}
 
 pub argument_made : (n : ℕ) (args : List Value) (i : ℕ) → AreMade n args → MatchOption (slice_get args i) (Unit {0}) (IsMade n)

@@ -1,31 +1,29 @@
 -- A call, values or an error lead from a safe state to a safe state.
-use Rattle.std.proofs.Common.{◌≡◌, refl, sym, ap, ◌∙◌, ℕ, zero, suc, ◌+◌, ◌<◌, ◌≤◌, Bool, true, false, List, [], ◌∷◌, ◌++◌, length, take, drop, map, Option, Some, None, arith, subst, nat_eq}
+use Rattle.std.proofs.Common.{◌≡◌, refl, sym, ap, ◌∙◌, ℕ, zero, suc, ◌<◌, Bool, true, false, List, [], ◌∷◌, length, take, Option, Some, None, arith, subst, nat_eq}
 use Rattle.std.specs.Prelude.{MatchOption, slice_get, if◌then◌else◌}
 use Rattle.std.proofs.lemmas.Bool.Decides.{nat_tests}
-use Rattle.std.proofs.lemmas.Option.{slice_get-get_or}
 use Rattle.value_model.specs.declared.builtin.Builtin.TheVariants as builtin
 use Rattle.value_model.specs.declared.event.EventKind.{EventKind}
 use Rattle.value_model.specs.declared.event.Reply.{Reply}
 use Rattle.value_model.specs.declared.kind.CoStatus.{CoStatus}
 use Rattle.value_model.specs.declared.kind.CoStatus.TheVariants.{Running, Suspended, Normal, Dead}
-use Rattle.value_model.specs.Values.{Value, Nil, Closure, Native, Thread}
-use Rattle.value_model.specs.Store.{Store, here, place_of_running}
+use Rattle.value_model.specs.Values.{Value, Closure, Native, Thread}
+use Rattle.value_model.specs.Store.{Store, here}
 use Rattle.value_model.specs.CoroutineRows.{coroutine_of, with_coroutine}
-use Rattle.value_model.specs.Waits.{Wait, Runs, Waits, waiting, with_waiting, await, Caller, ByScript, ByLibrary, Case, Called, Given, Passed, Fails, Raises, Answer, Gives, Enters, Calls, Throws, Stops, Finishes, Dies, Waited, first_of, innermost}
+use Rattle.value_model.specs.Waits.{Wait, Runs, Waits, waiting, await, Caller, ByScript, ByLibrary, Called, Given, Passed, Fails, Raises, Answer, Gives, Enters, Calls, Throws, Stops, Finishes, Dies, Waited, innermost}
 use Rattle.value_model.specs.Waiting as deciding
 use Rattle.value_model.specs.Waiting.{wait}
 use Rattle.value_model.specs.Library.{lib}
 use Rattle.op_words.specs.Chunks.{ChunkOf, ProtoOf}
 use Rattle.machine_meaning.specs.Chunks.{proto_at}
 use Rattle.machine_meaning.specs.WellFormed.{IsWellFormed}
-use Rattle.machine_meaning.specs.States.{Register, Frame, Focus, Run, Invoke, Hand, Fault, Raise, Idle, Body, World, State, Val, filled}
-use Rattle.machine_meaning.specs.Moves.{Step, store_of, with_store}
+use Rattle.machine_meaning.specs.States.{Register, Frame, Run, Invoke, Hand, Fault, Raise, Idle, Body, World, State, Val, filled}
+use Rattle.machine_meaning.specs.Moves.{Step, store_of}
 use Rattle.machine_meaning.specs.Calls.{state_with, varargs_of, begun, enter, is_dead, put, switched, to, entered, follows, world_after, decided, without_closed, asks, is_function}
-use Rattle.checked_runs.specs.Places.{IsPlace}
-use Rattle.checked_runs.specs.Safe.{Each, Sizes, IsMade, AreMade, IsRegister, IsFrame, IsWait, IsBody, AreWaits, AreStacked, IsWorld, IsActive, AreDoing, IsSafe, IsSafeMove}
+use Rattle.checked_runs.specs.Safe.{Each, Sizes, IsMade, AreMade, IsRegister, IsBody, AreStacked, IsWorld, IsSafe, IsSafeMove}
 use Rattle.checked_runs.specs.Keeps.{LibraryKeeps}
-use Rattle.checked_runs.proofs.Elements.{each_at, each_or, each_take, each_drop}
-use Rattle.checked_runs.proofs.Rules.{IsSound, proto_sound}
+use Rattle.checked_runs.proofs.Elements.{each_at, each_take, each_drop}
+use Rattle.checked_runs.proofs.Rules.{proto_sound}
 use Rattle.checked_runs.proofs.Places.{start_place}
 use Rattle.checked_runs.proofs.Waits.{with_waits, waits_here, those_here}
 use Rattle.checked_runs.proofs.Settled.{IsSettled, stacked_left}

@@ -1,5 +1,5 @@
 -- The functions that closures are made of, and the calls over which fast calls go.
-use Rattle.std.proofs.Common.{◌≡◌, refl, sym, ap, ◌∙◌, ℕ, zero, suc, ◌+◌, ◌<◌, ℤ, pos, negsuc, Bool, true, false, ◌&&◌, ◌||◌, not, List, [], ◌∷◌, ◌++◌, length, Option, Some, None, arith, subst, nat_eq, nat_lt, nat_le, get_or, append_assoc}
+use Rattle.std.proofs.Common.{◌≡◌, refl, sym, ap, ◌∙◌, ℕ, ◌+◌, ◌<◌, ℤ, pos, negsuc, Bool, true, false, ◌&&◌, List, [], ◌∷◌, ◌++◌, length, Option, Some, None, arith, subst, nat_eq, nat_lt, nat_le, get_or, append_assoc}
 use Rattle.std.specs.Prelude.{slice_get, is_some}
 use Rattle.std.specs.Option.{option_and_then}
 use Rattle.std.specs.List.{list_all}
@@ -10,15 +10,15 @@ use Rattle.op_words.specs.declared.insn.Insn.TheVariants.{Move, Call, NewClosure
 use Rattle.op_words.specs.Decoding.{insn_at}
 use Rattle.op_words.specs.Chunks.{ChunkOf, ProtoOf}
 use Rattle.machine_meaning.specs.Chunks.{proto_at}
-use Rattle.machine_meaning.specs.Needs.{Line, lines, child_of, has_child, is_capture}
-use Rattle.machine_meaning.specs.WellFormed.{is_proto, is_prepared, upvalues_at, upvalues_of, captures_well, leading, is_move_and_call, is_move_before, is_call_at, is_end, is_closure_or_capture}
+use Rattle.machine_meaning.specs.Needs.{Line, lines, child_of}
+use Rattle.machine_meaning.specs.WellFormed.{is_prepared, upvalues_at, upvalues_of, captures_well, leading, is_move_and_call, is_move_before, is_end, is_closure_or_capture}
 use Rattle.machine_meaning.specs.States.{Frame, World, Taken}
 use Rattle.machine_meaning.specs.Moves.{inside}
 use Rattle.machine_meaning.specs.Effects as effects
 use Rattle.machine_meaning.specs.Effects.{child_at, new_closure, captures, call_over}
 use Rattle.checked_runs.specs.Places.{IsPlace}
-use Rattle.checked_runs.specs.Safe.{Each, Sizes, IsSafeMove}
-use Rattle.checked_runs.proofs.Lines.{line_read, first_line}
+use Rattle.checked_runs.specs.Safe.{Sizes, IsSafeMove}
+use Rattle.checked_runs.proofs.Lines.{line_read}
 use Rattle.checked_runs.proofs.Rules.{both, IsSound}
 use Rattle.checked_runs.proofs.Places.{three, Stands, next_place}
 use Rattle.checked_runs.proofs.Settings.{Setting}

@@ -1,26 +1,26 @@
 -- A closure captures what the instructions behind its own say.
-use Rattle.std.proofs.Common.{◌≡◌, refl, sym, ap, ◌∙◌, ℕ, zero, suc, ◌+◌, ◌<◌, ◌≤◌, ℤ, pos, Bool, true, false, ◌&&◌, List, [], ◌∷◌, ◌++◌, length, get_or, Option, Some, None, arith, subst, nat_eq, append_assoc, length-append}
-use Rattle.std.specs.Prelude.{if◌then◌else◌, slice_index_or}
+use Rattle.std.proofs.Common.{◌≡◌, refl, sym, ap, ◌∙◌, ℕ, zero, suc, ◌+◌, ◌<◌, Bool, true, false, List, [], ◌∷◌, ◌++◌, length, Option, Some, arith, subst, append_assoc, length-append}
+use Rattle.std.specs.Prelude.{if◌then◌else◌}
 use Rattle.std.proofs.lemmas.Bool.Decides.{nat_tests}
 use Rattle.value_model.specs.Values.{Value, Closure, TableRef}
-use Rattle.value_model.specs.Store.{Store, with_new_closure, here}
+use Rattle.value_model.specs.Store.{with_new_closure}
 use Rattle.value_model.specs.CoroutineRows.{coroutine_of}
 use Rattle.op_words.specs.declared.insn.Insn.{Insn}
-use Rattle.op_words.specs.declared.insn.Insn.TheVariants.{Capture, NewClosure}
+use Rattle.op_words.specs.declared.insn.Insn.TheVariants.{Capture}
 use Rattle.op_words.specs.Decoding.{insn_at}
 use Rattle.op_words.specs.Chunks.{ChunkOf, ProtoOf}
 use Rattle.machine_meaning.specs.Chunks.{proto_at}
-use Rattle.machine_meaning.specs.Needs.{Line, lines, lines_from, is_capture, is_known, upvalue_of, all_below}
-use Rattle.machine_meaning.specs.WellFormed.{leading, is_end, fall_faults, at_start}
+use Rattle.machine_meaning.specs.Needs.{Line, lines, is_capture, is_known, upvalue_of, all_below}
+use Rattle.machine_meaning.specs.WellFormed.{leading, is_end, fall_faults}
 use Rattle.machine_meaning.specs.States as states
 use Rattle.machine_meaning.specs.States.{Register, Val, Open, Frame, World, Inside, Body, Taken, with_cells, value_in, also, opened, copied, cell_up, capture}
-use Rattle.machine_meaning.specs.Moves.{store_of, environment_here, inside}
-use Rattle.machine_meaning.specs.Effects.{captured, captures, closure, new_closure}
+use Rattle.machine_meaning.specs.Moves.{store_of, environment_here}
+use Rattle.machine_meaning.specs.Effects.{captured, captures, closure}
 use Rattle.checked_runs.specs.Places.{IsPlace}
-use Rattle.checked_runs.specs.Safe.{Each, Sizes, IsMade, AreMade, IsFrame, IsRegister, IsBody, IsWorld, AreStacked, IsSafeMove}
+use Rattle.checked_runs.specs.Safe.{Each, Sizes, IsMade, IsRegister, IsBody, IsSafeMove}
 use Rattle.checked_runs.proofs.Elements.{each_append, each_map, each_within, option_more}
 use Rattle.checked_runs.proofs.Lines.{line_read, first_line}
-use Rattle.checked_runs.proofs.Rules.{IsSound, KeepsRules, rules_kept, passed}
+use Rattle.checked_runs.proofs.Rules.{IsSound, rules_kept}
 use Rattle.checked_runs.proofs.Places.{not_last, falls}
 use Rattle.checked_runs.proofs.Settings.{Setting, with_frame, put_register, value_made, gives}
 use Rattle.checked_runs.proofs.Growing.{AreMore, value_more, values_more, frame_more, stacked_more, body_more, waits_more, store_more}

@@ -1,5 +1,5 @@
 -- The constants that well-formed code reads are there.
-use Rattle.std.proofs.Common.{◌≡◌, refl, sym, ap, ◌∙◌, ℕ, zero, suc, ◌+◌, ◌<◌, ◌^◌, ◌/◌, ◌%◌, ℤ, pos, negsuc, Bool, true, false, ◌&&◌, ◌||◌, List, [], ◌∷◌, length, map, Option, Some, None, arith, subst, nat_eq, nat_lt, option_map}
+use Rattle.std.proofs.Common.{◌≡◌, refl, sym, ap, ◌∙◌, ℕ, zero, suc, ◌<◌, ◌^◌, ◌/◌, ◌%◌, ℤ, pos, negsuc, Bool, true, false, List, [], ◌∷◌, length, map, Option, Some, None, arith, nat_lt, option_map}
 use Rattle.std.specs.Prelude.{slice_get, slice_index_or, is_some}
 use Rattle.std.specs.Option.{option_and_then}
 use Rattle.std.specs.List.{list_all}
@@ -15,7 +15,6 @@ use Rattle.machine_meaning.specs.Needs.{Want, AValue, AName, ANumber, AnImport, 
 use Rattle.checked_runs.specs.Safe.{IsMade}
 use Rattle.checked_runs.specs.Operands.{IsConstant}
 use Rattle.checked_runs.proofs.Rules.{both, IsSound}
-use Rattle.checked_runs.proofs.Places.{three}
 
 pub all_at : {X : Type 0} (f : X → Bool) (xs : List X) (i : ℕ) (x : X) → list_all f xs ≡ true → slice_get xs i ≡ Some x → f x ≡ true
 all_at f [] i x e g = absurd cc

@@ -1,7 +1,6 @@
 -- What a call, values or an error come to leaves all coroutines settled.
-use Rattle.std.proofs.Common.{◌≡◌, refl, sym, ap, ◌∙◌, ℕ, zero, suc, ◌+◌, ◌<◌, ◌≤◌, Bool, true, false, List, [], ◌∷◌, ◌++◌, length, map, Option, Some, None, Ok, Err, arith, subst, nat_eq}
-use Rattle.std.specs.Prelude.{MatchOption, slice_index_or}
-use Rattle.value_model.specs.declared.builtin.Builtin.{Builtin}
+use Rattle.std.proofs.Common.{◌≡◌, refl, ap, ℕ, ◌<◌, Bool, true, false, List, [], ◌∷◌, length, map, Option, Some, None, Ok, Err, subst}
+use Rattle.std.specs.Prelude.{MatchOption}
 use Rattle.value_model.specs.declared.kind.CoStatus.{CoStatus}
 use Rattle.value_model.specs.declared.kind.CoStatus.TheVariants.{Running, Suspended, Normal, Dead}
 use Rattle.value_model.specs.declared.plain.Plain.{Plain}
@@ -10,10 +9,9 @@ use Rattle.value_model.specs.declared.event.Reply.{Reply}
 use Rattle.value_model.specs.declared.event.Reply.TheVariants as answered
 use Rattle.value_model.specs.Names.{value_of}
 use Rattle.value_model.specs.Values.{Bytes, TableRef, Value, Nil, Boolean, Number, Text, Table, Closure, Native, Host, Wrap, Thread}
-use Rattle.value_model.specs.Errors.{RunError}
-use Rattle.value_model.specs.Store.{Store, CoroutineOf, here, place_of_running}
-use Rattle.value_model.specs.CoroutineRows.{coroutine_of, with_coroutine, dead}
-use Rattle.value_model.specs.Waits.{Wait, Runs, Protects, Guards, Handles, Resumes, Asks, Waits, waiting, with_waiting, leave, await, Caller, ByScript, ByLibrary, Case, Called, Given, Passed, Thrown, Fails, Raises, Elsewise, Answer, Gives, Enters, Calls, Throws, Stops, Finishes, Dies, Waited, innermost_function, first_of}
+use Rattle.value_model.specs.Store.{Store, here}
+use Rattle.value_model.specs.CoroutineRows.{coroutine_of, dead}
+use Rattle.value_model.specs.Waits.{Wait, Runs, Protects, Guards, Handles, Resumes, Asks, Waits, waiting, Caller, ByScript, ByLibrary, Fails, Raises, Answer, Gives, Enters, Calls, Throws, Waited, innermost_function, first_of}
 use Rattle.value_model.specs.Choices.{Outcome, Done, CallThis, Errs, Halts}
 use Rattle.value_model.specs.Answers.{CoMove, Resume, Yield, Close, Whose, Innermost, OfFunction, OfScript, EnvironmentUse, Reads, Replaces, LibAnswer, Answers, PrintsLine, ErrsWith, RaisesValue, HaltsWith, CallsBack, Moves, OnEnvironment}
 use Rattle.value_model.specs.Metamethods.{callee_of}
@@ -22,8 +20,8 @@ use Rattle.value_model.specs.Waiting as deciding
 use Rattle.op_words.specs.Chunks.{ChunkOf}
 use Rattle.machine_meaning.specs.States.{Frame}
 use Rattle.machine_meaning.specs.Calls.{is_dead, is_function}
-use Rattle.checked_runs.specs.Safe.{Each, Sizes, IsMade, AreMade, IsResumer, IsCoroutine, IsStore, IsWait, AreStacked}
-use Rattle.checked_runs.specs.Keeps.{Keeps, OutcomeIsMade, MoveIsMade, WhoseIsMade, UseIsMade, AnswerIsMade, LibraryKeeps}
+use Rattle.checked_runs.specs.Safe.{Each, Sizes, IsMade, AreMade, IsWait, AreStacked}
+use Rattle.checked_runs.specs.Keeps.{OutcomeIsMade, MoveIsMade, WhoseIsMade, UseIsMade, AnswerIsMade, LibraryKeeps}
 use Rattle.checked_runs.proofs.Elements.{each_or, each_append}
 use Rattle.checked_runs.proofs.Operations.{callee_made}
 use Rattle.checked_runs.proofs.Settled.{IsSettled, coroutine_made, dead_made, alive_below, settled_await, settled_over, settled_library, settled_environment, settled_resumed, settled_left, settled_closed, settled_empty, empty_here}

@@ -1,33 +1,28 @@
 -- What instructions are made of leads from safe states to safe states.
-use Rattle.std.proofs.Common.{◌≡◌, refl, sym, ap, ◌∙◌, ℕ, zero, suc, ◌+◌, ◌-◌, ◌<◌, ◌≤◌, ℤ, pos, negsuc, ◌+ℤ◌, Bool, true, false, not, List, [], ◌∷◌, ◌++◌, length, Option, Some, None, Ok, Err, Result, arith, subst, codes, ◌≢◌}
-use Rattle.std.specs.Prelude.{IfOk, MatchOption}
+use Rattle.std.proofs.Common.{◌≡◌, refl, sym, ◌∙◌, ℕ, zero, suc, ◌+◌, ◌-◌, ℤ, pos, ◌+ℤ◌, Bool, true, false, List, [], ◌∷◌, length, Option, Some, None, subst}
+use Rattle.std.specs.Prelude.{MatchOption}
 use Rattle.value_model.specs.declared.builtin.Builtin.{Builtin}
 use Rattle.value_model.specs.declared.operator.ArithOp.{ArithOp}
 use Rattle.value_model.specs.declared.operator.CompareOp.{CompareOp}
-use Rattle.value_model.specs.Values.{Value, Nil, Boolean, Number, Text, Table, Closure, Native, Host, Wrap, Thread, TableRef, Bytes, is_true}
-use Rattle.value_model.specs.Errors.{RunError}
-use Rattle.value_model.specs.Store.{Store, TableOf, empty_table, table_at, with_table, next_table, with_new_table}
-use Rattle.value_model.specs.Waits.{ByScript, ByLibrary, Stopped, Stuck}
+use Rattle.value_model.specs.Values.{Value, Nil, Number, Text, Table, Bytes, is_true}
 use Rattle.value_model.specs.Choices.{Index, Newindex, Arith, Compare, Concat, Length}
 use Rattle.value_model.specs.Answers.{LibAnswer, Answers, PrintsLine, ErrsWith, RaisesValue, HaltsWith, CallsBack, Moves, OnEnvironment}
-use Rattle.value_model.specs.Tables.{set as set_key}
-use Rattle.value_model.specs.Metamethods.{choose, metamethod}
+use Rattle.value_model.specs.Metamethods.{choose}
 use Rattle.value_model.specs.Loops as loops
 use Rattle.value_model.specs.Loops.{Bounds, Range, Refused, Halted, Iteration, Generates, CallsIter, NotIterable}
 use Rattle.value_model.specs.Library.{lib}
 use Rattle.op_words.specs.declared.insn.Insn.{Insn}
-use Rattle.op_words.specs.declared.insn.Insn.TheVariants.{Call, ForNLoop, ForGLoop}
+use Rattle.op_words.specs.declared.insn.Insn.TheVariants.{Call}
 use Rattle.op_words.specs.Chunks.{ChunkOf, ProtoOf}
-use Rattle.machine_meaning.specs.States.{Purpose, Idle, Results, Into, Compares, Joins, Follows, Stores, Begins, Turns, Frame, Focus, Run, Charged, Join, Follow, Invoke, World, Inside, value_in, values_in, ended, set, set_all, adjusted}
-use Rattle.machine_meaning.specs.Moves.{state, now, at, go, charge, inside, store_of, with_store, environment_here, first, rest, saved, settle, jump, jump_back, return_to, branch}
-use Rattle.machine_meaning.specs.Effects.{index, newindex, calculate, compare, decided, follow, import_of, list_from, call, deliver, results, numbered, under, finished, answered, fast, set_list, stored, store_list, new_table, with_bounds, begun, prepared, back, again, added, with_generator, iterated, ask, turned, join, follow_names, agrees, receive, charged}
+use Rattle.machine_meaning.specs.States.{Purpose, Idle, Results, Into, Compares, Joins, Follows, Stores, Begins, Turns, Frame, World, Inside, ended, set, set_all, adjusted}
+use Rattle.machine_meaning.specs.Moves.{inside, store_of, environment_here, first, rest, settle, jump, jump_back, return_to, branch}
+use Rattle.machine_meaning.specs.Effects.{index, newindex, calculate, compare, decided, follow, import_of, list_from, call, deliver, results, numbered, under, finished, answered, fast, with_bounds, begun, prepared, back, again, added, with_generator, iterated, ask, turned, join, follow_names, agrees, receive}
 use Rattle.checked_runs.specs.Places.{IsPlace, LeadsTo, LeadsOn}
-use Rattle.checked_runs.specs.Safe.{Each, Sizes, IsMade, AreMade, IsTable, IsStore, Awaits, IsWorld, IsSafe, IsSafeMove, is_some_value}
+use Rattle.checked_runs.specs.Safe.{Sizes, IsMade, AreMade, Awaits, IsSafeMove, is_some_value}
 use Rattle.checked_runs.specs.Keeps.{Keeps, LibraryKeeps, AnswerStays}
-use Rattle.checked_runs.proofs.Elements.{each_append}
-use Rattle.checked_runs.proofs.Settings.{Setting, frame_at, frame_ended, with_frame, active, goes, faults, value_made, values_made, adjusted_made, first_made, rest_made, set_keeps, set_all_keeps, set_place, set_all_place, gives}
+use Rattle.checked_runs.proofs.Settings.{Setting, frame_ended, with_frame, active, goes, faults, value_made, values_made, adjusted_made, first_made, rest_made, set_keeps, set_all_keeps, set_place, set_all_place, gives}
 use Rattle.checked_runs.proofs.Outcomes.{setting_kept, waiting_frame, settled}
-use Rattle.checked_runs.proofs.Operations.{choose_made, set_made, table_made, with_table_keeps, keeps_itself, metamethod_made}
+use Rattle.checked_runs.proofs.Operations.{choose_made, keeps_itself}
 
 module _ {chunk : ChunkOf} {z : Sizes} {p : ProtoOf} {f : Frame} {fs : List Frame} {w : World} (s : Setting chunk z p f fs w) where
   -- ---- jumps

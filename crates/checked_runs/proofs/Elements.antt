@@ -1,5 +1,5 @@
 -- Lists of which each element has something, and values that exist.
-use Rattle.std.proofs.Common.{◌≡◌, refl, sym, ap, ◌∙◌, ℕ, zero, suc, ◌+◌, ◌<◌, ◌≤◌, Bool, true, false, List, [], ◌∷◌, ◌++◌, length, take, drop, reverse, get_or, set, Option, Some, None, arith, subst}
+use Rattle.std.proofs.Common.{◌≡◌, ℕ, zero, suc, ◌<◌, ◌≤◌, List, [], ◌∷◌, ◌++◌, length, take, drop, reverse, get_or, set, Option, Some, None, arith, subst}
 use mathlib.Core.List.{reverse_aux}
 use Rattle.std.specs.Prelude.{slice_get, MatchOption}
 use Rattle.value_model.specs.Values.{Value, Nil, Boolean, Number, Text, Table, Closure, Native, Host, Wrap, Thread}

@@ -1,5 +1,5 @@
 -- The library makes no function, and names no coroutine but those that it was given, has made or runs in.
-use Rattle.std.proofs.Common.{◌≡◌, refl, sym, ap, ◌∙◌, ℕ, zero, suc, ◌<◌, ℤ, Bool, true, false, List, [], ◌∷◌, map, reverse, Option, Some, None, subst, nat_eq}
+use Rattle.std.proofs.Common.{◌≡◌, refl, sym, ap, ◌∙◌, ℕ, suc, Bool, true, false, List, [], ◌∷◌, map, reverse, Option, Some, nat_eq}
 use Rattle.std.specs.Prelude.{if◌then◌else◌}
 use Rattle.std.specs.Int.{int_min, int_max, int_signum}
 use Rattle.std.specs.Char.{to_ascii_lowercase, to_ascii_uppercase}
@@ -9,11 +9,10 @@ use Rattle.value_model.specs.Values.{Bytes, Value, Text}
 use Rattle.value_model.specs.Store.{Store}
 use Rattle.value_model.specs.Waits.{Continue}
 use Rattle.value_model.specs.Library.{lib, go_on, goes_on}
-use Rattle.value_model.specs.CoreRows as core
 use Rattle.value_model.specs.MathRows as math
 use Rattle.machine_meaning.specs.Effects.{under, numbered}
 use Rattle.checked_runs.specs.Safe.{Each, IsMade, AreMade, IsStore}
-use Rattle.checked_runs.specs.Keeps.{AnswersAreMade, AnswerIsMade, AnswerStays, LibraryKeeps}
+use Rattle.checked_runs.specs.Keeps.{AnswersAreMade, LibraryKeeps}
 use Rattle.checked_runs.proofs.Elements.{each_drop}
 use Rattle.checked_runs.proofs.Arguments.{Holds}
 use Rattle.checked_runs.proofs.Reading as reading

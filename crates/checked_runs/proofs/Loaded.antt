@@ -1,31 +1,25 @@
 -- Well-formed code is loaded into a safe state.
-use Rattle.std.proofs.Common.{◌≡◌, refl, sym, ap, ◌∙◌, ℕ, zero, suc, ◌<◌, ℤ, pos, Bool, true, false, ◌&&◌, List, [], ◌∷◌, ◌++◌, length, map, Option, Some, None, arith, subst, nat_eq, codes}
-use Rattle.std.specs.Prelude.{MatchOption, slice_index_or, slice_set}
+use Rattle.std.proofs.Common.{◌≡◌, refl, sym, ap, ℕ, zero, suc, pos, Bool, true, false, List, [], ◌∷◌, length, map, Option, Some, None, arith, subst, nat_eq, codes}
+use Rattle.std.specs.Prelude.{MatchOption}
 use Rattle.std.specs.Option.{option_and_then}
 use Rattle.std.proofs.lemmas.Bool.Decides.{nat_tests}
 use Rattle.value_model.specs.declared.builtin.Builtin.{Builtin}
-use Rattle.value_model.specs.declared.plain.Plain.{Plain}
-use Rattle.value_model.specs.declared.event.Reply.{Reply}
-use Rattle.value_model.specs.Values.{Bytes, TableRef, Shared, Value, Nil, Text, Table, Boolean, Number, Closure, Native, Host, Wrap, Thread}
+use Rattle.value_model.specs.Values.{Bytes, TableRef, Shared, Value, Nil, Text, Table}
 use Rattle.value_model.specs.Names.{value_of}
 use Rattle.value_model.specs.Store.{Store, TableOf, empty_table, table_at, script_environment}
-use Rattle.value_model.specs.Tables.{put}
 use Rattle.value_model.specs.CoroutineRows.{coroutine_of}
-use Rattle.value_model.specs.Waits.{Wait, Runs, waiting}
-use Rattle.value_model.specs.Fresh.{HostValue, HostPlain, HostFunction, HostTable, HostFields, NoField, Field, Built, with_built, with_built_at, path_under, fixed, place_value, place_fields, library_entry, library_table, core_functions, math_functions, string_functions, table_functions, coroutine_functions, standard, standard_table, built, store_with, fresh, first_waits}
-use Rattle.op_words.specs.declared.chunk.Const.{Const}
+use Rattle.value_model.specs.Waits.{waiting}
+use Rattle.value_model.specs.Fresh.{HostValue, HostPlain, HostFunction, HostTable, HostFields, NoField, Field, Built, with_built, path_under, place_value, place_fields, library_entry, core_functions, math_functions, string_functions, table_functions, coroutine_functions, standard, standard_table, built, fresh, first_waits}
 use Rattle.op_words.specs.Chunks.{ChunkOf, ProtoOf}
 use Rattle.machine_meaning.specs.Chunks.{proto_at, size_of}
 use Rattle.machine_meaning.specs.Constants.{constant_at}
-use Rattle.machine_meaning.specs.WellFormed.{IsWellFormed, is_main}
-use Rattle.machine_meaning.specs.States.{Frame, Run, Idle, filled}
-use Rattle.machine_meaning.specs.Runs.{raw, global_value, led, resolved, path_in, imports_of, loaded}
-use Rattle.machine_meaning.specs.Calls.{is_dead}
-use Rattle.checked_runs.specs.Places.{IsPlace}
-use Rattle.checked_runs.specs.Safe.{Each, Sizes, IsMade, AreMade, IsEntry, IsTable, IsStore, AreStacked, IsSafe}
+use Rattle.machine_meaning.specs.WellFormed.{is_main}
+use Rattle.machine_meaning.specs.States.{Idle, filled}
+use Rattle.machine_meaning.specs.Runs.{raw, global_value, led, resolved, path_in, imports_of}
+use Rattle.checked_runs.specs.Safe.{Each, Sizes, IsMade, IsEntry, IsTable, IsStore, AreStacked}
 use Rattle.checked_runs.specs.Laws.{LoadedIsSafe}
 use Rattle.checked_runs.proofs.Elements.{each_append, each_set}
-use Rattle.checked_runs.proofs.Rules.{both, main_kept, proto_sound}
+use Rattle.checked_runs.proofs.Rules.{main_kept, proto_sound}
 use Rattle.checked_runs.proofs.Places.{three, start_place}
 use Rattle.checked_runs.proofs.Operations.{get_made, put_made, table_made}
 use Rattle.checked_runs.proofs.Deciding.{plain_made}

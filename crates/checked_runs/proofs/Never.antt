@@ -1,8 +1,8 @@
 -- A run of well-formed code is never stuck.
-use Rattle.std.proofs.Common.{◌≡◌, ◌≢◌, refl, sym, ap, ◌∙◌, ℕ, zero, suc, List, [], ◌∷◌, ◌++◌, Option, Some, None, subst}
+use Rattle.std.proofs.Common.{◌≡◌, ◌≢◌, refl, ap, ◌∙◌, ℕ, zero, suc, List, [], ◌++◌, Option, Some, None, subst}
 use Rattle.value_model.specs.declared.event.EventKind.{EventKind}
-use Rattle.value_model.specs.Waits.{End, Unfinished, Stuck}
-use Rattle.bounded_runs.specs.Runs.{Stamped, Report, Move, Goes, Shows, Charges, Ends, Rest, after, run}
+use Rattle.value_model.specs.Waits.{Unfinished, Stuck}
+use Rattle.bounded_runs.specs.Runs.{Stamped, Report, Goes, Shows, Charges, Ends, Rest, after, run}
 use Rattle.op_words.specs.Chunks.{ChunkOf}
 use Rattle.machine_meaning.specs.WellFormed.{IsWellFormed}
 use Rattle.machine_meaning.specs.States.{State}

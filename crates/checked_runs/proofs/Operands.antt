@@ -1,5 +1,5 @@
 -- Where the function that runs stands there is an instruction, and all that it names is there.
-use Rattle.std.proofs.Common.{◌≡◌, refl, sym, ap, ◌∙◌, ℕ, zero, suc, ◌+◌, ◌<◌, ◌≤◌, ℤ, pos, negsuc, Bool, true, false, ◌&&◌, ◌||◌, List, [], ◌∷◌, length, Option, Some, None, arith, subst, nat_eq, nat_lt, nat_le}
+use Rattle.std.proofs.Common.{◌≡◌, refl, sym, ℕ, ◌+◌, ◌<◌, ℤ, pos, negsuc, Bool, true, false, ◌||◌, List, [], ◌∷◌, Option, Some, None, arith, subst, nat_eq, nat_le}
 use Rattle.std.specs.Prelude.{MatchOption, is_some}
 use Rattle.std.specs.List.{list_all}
 use Rattle.std.proofs.lemmas.Bool.Decides.{nat_tests}
@@ -9,12 +9,12 @@ use Rattle.op_words.specs.Chunks.{ChunkOf, ProtoOf}
 use Rattle.machine_meaning.specs.Chunks.{proto_at}
 use Rattle.machine_meaning.specs.Needs.{Range, registers_of, fits_range, is_own, Want, finds, constants_of, upvalue_of, all_below, child_of, has_child, jump_of, goes_back}
 use Rattle.machine_meaning.specs.WellFormed.{IsWellFormed}
-use Rattle.machine_meaning.specs.States.{Frame, Focus, Run, State}
+use Rattle.machine_meaning.specs.States.{Frame, Focus, Run}
 use Rattle.machine_meaning.specs.Moves.{store_of}
 use Rattle.value_model.specs.Store.{here}
 use Rattle.value_model.specs.Waits.{Wait, waiting}
 use Rattle.checked_runs.specs.Places.{IsPlace, LeadsTo, LeadsOn}
-use Rattle.checked_runs.specs.Safe.{Each, Sizes, IsFrame, IsActive, AreDoing, IsSafe}
+use Rattle.checked_runs.specs.Safe.{Each, Sizes, IsFrame, IsActive, AreDoing}
 use Rattle.checked_runs.specs.Operands.{AreOwn, IsConstant, IsChild, HasChild, HasOperands}
 use Rattle.checked_runs.specs.Laws.{OperandsAreThere}
 use Rattle.checked_runs.proofs.Rules.{both, IsSound, proto_sound}

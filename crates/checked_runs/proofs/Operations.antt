@@ -1,20 +1,20 @@
 -- Operations on values make no function, and change tables alone.
-use Rattle.std.proofs.Common.{◌≡◌, refl, sym, ap, ◌∙◌, ℕ, zero, suc, ◌<◌, ℤ, pos, Bool, true, false, cond, List, [], ◌∷◌, ◌++◌, length, Option, Some, None, Ok, Err, Result, arith, append-nil, codes}
-use Rattle.std.specs.Prelude.{slice_index_or, if◌then◌else◌, int_lt, int_le, nat_le, IfOk}
+use Rattle.std.proofs.Common.{refl, sym, ℕ, zero, suc, ℤ, Bool, true, false, cond, List, [], ◌∷◌, ◌++◌, length, Option, Some, None, Ok, Err, Result, append-nil, codes}
+use Rattle.std.specs.Prelude.{if◌then◌else◌, int_lt, int_le, nat_le, IfOk}
 use Rattle.value_model.specs.declared.operator.ArithOp.{ArithOp}
 use Rattle.value_model.specs.declared.operator.ArithOp.TheVariants as op
 use Rattle.value_model.specs.declared.operator.CompareOp.{CompareOp}
 use Rattle.value_model.specs.declared.operator.CompareOp.TheVariants as order
 use Rattle.whole_num.specs.declared.arithmetic.Stop.{Stop}
 use Rattle.whole_num.specs.NumberTexts.{ReadNumber}
-use Rattle.value_model.specs.Values.{Bytes, TableRef, Shared, Own, Value, Nil, Boolean, Number, Text, Table, Closure, Native, Host, Wrap, Thread}
+use Rattle.value_model.specs.Values.{Bytes, TableRef, Shared, Own, Value, Nil, Boolean, Text, Table}
 use Rattle.value_model.specs.Errors.{RunError, IndexChain, NewindexChain, ReadonlyTable, NilKey, StringTooLarge}
 use Rattle.value_model.specs.Store.{Store, TableOf, empty_table, table_at, with_table}
 use Rattle.value_model.specs.Pairs as pairs
 use Rattle.value_model.specs.Operators.{calculated}
 use Rattle.value_model.specs.Tables as tables
-use Rattle.value_model.specs.CoroutineRows.{coroutine_of, dead}
-use Rattle.value_model.specs.Choices.{Operation, Index, Newindex, Arith, Compare, Concat, Length, Callee, Outcome, Done, CallThis, Errs, Halts, Choice}
+use Rattle.value_model.specs.CoroutineRows.{coroutine_of}
+use Rattle.value_model.specs.Choices.{Operation, Index, Newindex, Arith, Compare, Concat, Length, Callee, Outcome, Done, CallThis, Errs}
 use Rattle.value_model.specs.Metamethods as meta
 use Rattle.value_model.specs.Metamethods.{choose}
 use Rattle.checked_runs.specs.Safe.{Each, IsMade, AreMade, IsEntry, IsTable, IsStore}

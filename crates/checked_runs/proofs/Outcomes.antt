@@ -1,17 +1,15 @@
 -- What comes of an operation on values, where an instruction waits for it.
-use Rattle.std.proofs.Common.{◌≡◌, refl, sym, ap, ◌∙◌, ℕ, ◌<◌, ◌≤◌, Bool, true, false, List, [], ◌∷◌, ◌++◌, length, replicate, Option, Some, None, arith, subst, nat_eq, append-nil}
-use Rattle.value_model.specs.Values.{Value}
+use Rattle.std.proofs.Common.{◌≡◌, refl, sym, ap, ◌∙◌, ℕ, ◌≤◌, List, [], ◌∷◌, length, replicate, subst, nat_eq, append-nil}
 use Rattle.value_model.specs.Store.{Store, here, place_of_running}
 use Rattle.value_model.specs.CoroutineRows.{coroutine_of, dead}
-use Rattle.value_model.specs.Waits.{Runs, waiting, ByLibrary, Stopped}
-use Rattle.value_model.specs.Choices.{Operation, Outcome, Done, CallThis, Errs, Halts, Choice}
-use Rattle.value_model.specs.Metamethods.{choose}
+use Rattle.value_model.specs.Waits.{waiting}
+use Rattle.value_model.specs.Choices.{Outcome, Done, CallThis, Errs, Halts, Choice}
 use Rattle.std.specs.Prelude.{slice_index_or}
 use Rattle.op_words.specs.Chunks.{ChunkOf, ProtoOf}
-use Rattle.machine_meaning.specs.States.{Purpose, Frame, GiveAll, Invoke, Fault, World}
-use Rattle.machine_meaning.specs.Moves.{Look, asked, state, now, store_of, with_store, waits_for, saved, comes, settle}
+use Rattle.machine_meaning.specs.States.{Purpose, Frame, World}
+use Rattle.machine_meaning.specs.Moves.{Look, asked, store_of, with_store, waits_for, saved, comes, settle}
 use Rattle.machine_meaning.specs.Calls.{is_dead}
-use Rattle.checked_runs.specs.Safe.{Sizes, IsMade, AreMade, IsFrame, Awaits, IsWaiting, AreStacked, AreLeft, AreWaits, IsWorld, IsActive, AreDoing, IsSafe, IsSafeMove}
+use Rattle.checked_runs.specs.Safe.{Sizes, Awaits, AreStacked, IsWorld, IsSafeMove}
 use Rattle.checked_runs.specs.Keeps.{Keeps, OutcomeIsMade, ChoiceIsMade}
 use Rattle.checked_runs.proofs.Settings.{Setting, frame_at, frame_ended, with_frame, active, faults}
 

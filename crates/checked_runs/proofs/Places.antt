@@ -1,13 +1,13 @@
 -- Places of well-formed code: where it starts, what follows an instruction, and where jumps lead.
-use Rattle.std.proofs.Common.{◌≡◌, ◌⊎◌, inl, inr, refl, sym, ap, ◌∙◌, ℕ, zero, suc, ◌+◌, ℤ, pos, negsuc, ◌+ℤ◌, Bool, true, false, ◌&&◌, ◌||◌, not, List, [], ◌∷◌, ◌++◌, length, Option, Some, None, arith, nat_eq, append_assoc, subst}
+use Rattle.std.proofs.Common.{◌≡◌, ◌⊎◌, inl, inr, refl, sym, ap, ◌∙◌, ℕ, ◌+◌, ℤ, pos, negsuc, Bool, true, false, ◌&&◌, ◌||◌, not, List, [], ◌∷◌, ◌++◌, length, Some, arith, nat_eq, append_assoc, subst}
 use Rattle.std.specs.Prelude.{if◌then◌else◌, is_some, int_le}
 use Rattle.std.specs.List.{list_any}
 use Rattle.std.proofs.lemmas.Bool.Decides.{nat_tests}
 use Rattle.std.proofs.lemmas.Int.{ints}
 use Rattle.op_words.specs.declared.insn.Insn.{Insn}
 use Rattle.op_words.specs.Chunks.{ChunkOf, ProtoOf}
-use Rattle.machine_meaning.specs.Needs.{Line, lines, behind, is_capture, is_fast, reads_top, bound_by, target, jump_of, goes_back}
-use Rattle.machine_meaning.specs.WellFormed.{Before, unless, passing, fall_faults, end_faults, at_place, landings, lands, may_land, turns_well, same_truth, pairs_well, captures_well, calls_well, is_end, is_closure_or_capture, at_start}
+use Rattle.machine_meaning.specs.Needs.{Line, lines, is_capture, is_fast, reads_top, bound_by, target, jump_of, goes_back}
+use Rattle.machine_meaning.specs.WellFormed.{Before, unless, passing, fall_faults, end_faults, at_place, landings, lands, may_land, turns_well, same_truth, is_end, is_closure_or_capture, at_start}
 use Rattle.checked_runs.specs.Places.{IsPlace, LeadsTo, LeadsOn}
 use Rattle.checked_runs.proofs.Lines.{IsRead, line_read, first_line}
 use Rattle.checked_runs.proofs.Rules.{both, KeepsRules, IsSound, rules_kept, passed}

@@ -1,26 +1,20 @@
 -- Library functions that leave the store as it is.
-use Rattle.std.proofs.Common.{◌≡◌, refl, sym, ap, ◌∙◌, ℕ, zero, suc, ◌<◌, ℤ, pos, negsuc, ◌+ℤ◌, Bool, true, false, not, ◌&&◌, cond, List, [], ◌∷◌, ◌++◌, length, map, drop, Option, Some, None, Ok, Err, codes}
-use Rattle.std.specs.Prelude.{MatchOption, slice_get, if◌then◌else◌, unsigned_abs, nat_le, int_le, int_lt}
+use Rattle.std.proofs.Common.{ℕ, zero, suc, ℤ, pos, negsuc, ◌+ℤ◌, Bool, true, false, ◌&&◌, cond, List, [], ◌∷◌, ◌++◌, drop, Option, Some, None, Ok, Err, codes}
+use Rattle.std.specs.Prelude.{MatchOption, slice_get, if◌then◌else◌, unsigned_abs, int_le}
 use Rattle.value_model.specs.declared.builtin.Builtin.{Builtin}
 use Rattle.value_model.specs.declared.builtin.Builtin.TheVariants as builtin
 use Rattle.whole_num.specs.NumberTexts.{ReadNumber}
-use Rattle.value_model.specs.Values.{Bytes, TableRef, Value, Nil, Boolean, Number, Text, Table, Closure, Native, Host, Wrap, Thread, is_true}
-use Rattle.value_model.specs.Errors.{TooManyValues, StringTooLarge}
+use Rattle.value_model.specs.Values.{Bytes, TableRef, Value, Nil, Number, Text, Table, Closure, is_true}
 use Rattle.value_model.specs.Store.{Store, TableOf, table_at}
 use Rattle.value_model.specs.Waits.{Continue}
 use Rattle.value_model.specs.Pairs as pairs
 use Rattle.value_model.specs.Tables as tables
-use Rattle.value_model.specs.Metamethods.{metamethod, said_by, is_function, as_text}
-use Rattle.value_model.specs.Answers.{LibAnswer, Answers, PrintsLine, ErrsWith, CallsBack, OnEnvironment, Reads, OfScript}
+use Rattle.value_model.specs.Metamethods.{metamethod, is_function}
+use Rattle.value_model.specs.Answers.{LibAnswer, Answers, OnEnvironment, Reads, OfScript}
 use Rattle.value_model.specs.Arguments as arguments
 use Rattle.value_model.specs.CoreRows as core
-use Rattle.value_model.specs.MathRows as math
-use Rattle.value_model.specs.StringRows as string
-use Rattle.value_model.specs.FormatRows as format
 use Rattle.value_model.specs.TableRows as table
-use Rattle.value_model.specs.CoroutineRows as co
-use Rattle.checked_runs.specs.Safe.{Each, IsMade, AreMade, IsEntry, IsTable, IsStore, IsResumer}
-use Rattle.checked_runs.specs.Keeps.{AnswerWith}
+use Rattle.checked_runs.specs.Safe.{Each, IsMade, AreMade, IsEntry, IsTable, IsStore}
 use Rattle.checked_runs.proofs.Elements.{each_drop}
 use Rattle.checked_runs.proofs.Operations.{get_made, table_made, metamethod_made, said_made}
 use Rattle.checked_runs.proofs.Arguments as given

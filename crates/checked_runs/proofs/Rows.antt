@@ -1,5 +1,5 @@
 -- Each instruction of well-formed code leads from a safe state to a safe state.
-use Rattle.std.proofs.Common.{◌≡◌, refl, sym, ap, ◌∙◌, ℕ, zero, suc, ◌+◌, ◌-◌, ◌<◌, ◌≤◌, ◌/◌, ◌%◌, ◌^◌, ℤ, pos, negsuc, ◌+ℤ◌, Bool, true, false, ◌&&◌, ◌||◌, not, List, [], ◌∷◌, ◌++◌, length, reverse, set, Option, Some, None, arith, subst, nat_eq, nat_lt, nat_le, length-set}
+use Rattle.std.proofs.Common.{◌≡◌, refl, sym, ap, ◌∙◌, ℕ, zero, suc, ◌+◌, ◌-◌, ◌<◌, ◌/◌, ◌%◌, ◌^◌, ℤ, pos, negsuc, Bool, true, false, ◌&&◌, not, List, [], ◌∷◌, reverse, set, Option, Some, None, arith, subst, nat_eq, nat_lt, length-set}
 use mathlib.Core.List.{reverse_aux}
 use Rattle.std.specs.Prelude.{MatchOption, slice_index_or, slice_set, if◌then◌else◌}
 use Rattle.std.specs.List.{list_all}
@@ -9,21 +9,20 @@ use Rattle.value_model.specs.declared.operator.ArithOp.TheVariants as arithmetic
 use Rattle.value_model.specs.declared.operator.CompareOp.{CompareOp}
 use Rattle.value_model.specs.declared.operator.CompareOp.TheVariants as order
 use Rattle.value_model.specs.Values.{Value, Nil, Boolean, Number, Text, Table, Bytes, is_true}
-use Rattle.value_model.specs.Tables.{same}
 use Rattle.value_model.specs.Loops.{iteration}
 use Rattle.op_words.specs.declared.insn.Insn.{Insn}
 use Rattle.op_words.specs.declared.insn.Insn.TheVariants.{Nop, LoadNil, LoadB, LoadN, LoadK, Move, GetGlobal, SetGlobal, GetUpvalue, SetUpvalue, CloseUpvalues, GetImport, GetTable, SetTable, GetTableKS, SetTableKS, GetTableN, SetTableN, NewClosure, NameCall, Call, Return, Jump, JumpBack, JumpIf, JumpIfNot, JumpIfEq, JumpIfLe, JumpIfLt, JumpIfNotEq, JumpIfNotLe, JumpIfNotLt, Add, Sub, Mul, Div, Mod, Pow, Idiv, AddK, SubK, MulK, DivK, ModK, PowK, IdivK, SubRK, DivRK, And, Or, AndK, OrK, Concat, Not, Minus, Length, NewTable, SetList, ForNPrep, ForNLoop, ForGPrep, ForGLoop, GetVarargs, PrepVarargs, Capture, FastCall, FastCall1, FastCall2, FastCall2K, JumpX, LoadKX, JumpXEqKNil, JumpXEqKB, JumpXEqKN, JumpXEqKS}
 use Rattle.op_words.specs.Chunks.{ChunkOf, ProtoOf}
 use Rattle.machine_meaning.specs.Constants.{known, name_at, path_of}
-use Rattle.machine_meaning.specs.Needs.{Line, Want, finds, AValue, AName, ANumber, AnImport, jump_of, goes_back, constants_of, is_own}
+use Rattle.machine_meaning.specs.Needs.{Want, finds, AValue, AName, ANumber, AnImport, jump_of, goes_back, constants_of}
 use Rattle.machine_meaning.specs.WellFormed.{is_end, is_closure_or_capture, captures_well, calls_well, is_move_and_call, is_builtin}
 use Rattle.machine_meaning.specs.States.{Frame, World, Register, Val, Into, Charged, Join, held, value_in, values_in, closed, with_cells, cell_up}
 use Rattle.machine_meaning.specs.States as states
-use Rattle.machine_meaning.specs.Moves.{Row, state, give, go, on, inside, store_of, environment_here, is_safe, jump, branch}
-use Rattle.machine_meaning.specs.Effects.{with_constant, with_name, index, calculate, compare, import_at, numbered, under, call_over, arguments_of, list_from, bounds_in, agrees, jumps_with, fast}
+use Rattle.machine_meaning.specs.Moves.{Row, state, go, on, inside, store_of, environment_here, is_safe, branch}
+use Rattle.machine_meaning.specs.Effects.{with_constant, with_name, index, calculate, compare, import_at, numbered, under, call_over, arguments_of, list_from, bounds_in, jumps_with, fast}
 use Rattle.machine_meaning.specs.Instructions.{row}
 use Rattle.checked_runs.specs.Places.{IsPlace, LeadsTo, LeadsOn}
-use Rattle.checked_runs.specs.Safe.{Each, Sizes, IsMade, AreMade, IsRegister, IsFrame, IsLoop, IsWorld, IsSafe, IsSafeMove, is_loop, is_some_value}
+use Rattle.checked_runs.specs.Safe.{Sizes, IsMade, AreMade, IsRegister, IsLoop, IsSafe, IsSafeMove, is_loop, is_some_value}
 use Rattle.checked_runs.specs.Keeps.{LibraryKeeps}
 use Rattle.checked_runs.proofs.Elements.{each_or, each_set, each_reverse}
 use Rattle.checked_runs.proofs.Rules.{both, IsSound}
@@ -32,8 +31,8 @@ use Rattle.checked_runs.proofs.Settings.{Setting, with_registers, with_values, w
 use Rattle.checked_runs.proofs.Effects.{jumps, branches, jumps_back, indexes, newindexes, calculates, compares, measures, decides, imports, list_made, calls, gives_results, prepares, iterates, calls_fast}
 use Rattle.checked_runs.proofs.Tables.{makes_table, stores_list, iteration_made}
 use Rattle.checked_runs.proofs.Waits.{hands_back}
-use Rattle.checked_runs.proofs.Constants.{constant_found, IsKnown, value_known, number_known, IsNamed, name_known, path_known}
-use Rattle.checked_runs.proofs.Children.{closes_over, IsCallOver, call_found}
+use Rattle.checked_runs.proofs.Constants.{constant_found, IsKnown, value_known, number_known, name_known, path_known}
+use Rattle.checked_runs.proofs.Children.{closes_over, call_found}
 
 closed_made : (z : Sizes) (cells : List Value) (g : Register) (b : Bool) → IsRegister z g → IsMade z.functions (held cells g) → IsRegister z (if b then g else Val (held cells g))
 closed_made z cells g true i j = i

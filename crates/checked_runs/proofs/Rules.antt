@@ -1,12 +1,11 @@
 -- What well-formed code keeps at each line.
-use Rattle.std.proofs.Common.{◌≡◌, refl, sym, ap, ◌∙◌, ℕ, zero, suc, ◌+◌, ℤ, Bool, true, false, ◌&&◌, ◌||◌, not, List, [], ◌∷◌, ◌++◌, map, length, Option, Some, None, arith, nat_eq, subst}
+use Rattle.std.proofs.Common.{◌≡◌, refl, sym, ap, ◌∙◌, ℕ, zero, suc, ◌+◌, Bool, true, false, ◌&&◌, ◌||◌, not, List, [], ◌∷◌, ◌++◌, length, Some, arith, nat_eq, subst}
 use Rattle.std.specs.Prelude.{slice_get}
 use Rattle.std.specs.List.{list_all}
-use Rattle.op_words.specs.declared.insn.Insn.{Insn}
 use Rattle.op_words.specs.Chunks.{ChunkOf, ProtoOf}
 use Rattle.machine_meaning.specs.Chunks.{proto_at}
 use Rattle.machine_meaning.specs.Needs.{Line, lines, behind, registers_of, fits_range, is_own, is_known, constants_of, finds, is_sound, upvalue_of, all_below, has_child, jump_of, is_capture, sets_top, reads_top}
-use Rattle.machine_meaning.specs.WellFormed.{CodeFault, Before, unless, at_place, broken, passing, line_faults, fall_faults, end_faults, proto_faults, all_faults, code_faults, IsWellFormed, landings, at_start, is_proto, is_main, may_land, turns_well, pairs_well, captures_well, calls_well, is_read, is_set}
+use Rattle.machine_meaning.specs.WellFormed.{Before, unless, at_place, broken, passing, line_faults, end_faults, proto_faults, all_faults, code_faults, IsWellFormed, landings, at_start, is_proto, is_main, may_land, turns_well, pairs_well, captures_well, calls_well, is_read, is_set}
 
 pub both : (a b : Bool) → (a && b) ≡ true → (a ≡ true) × (b ≡ true)
 both true b e = (refl, e)

@@ -1,19 +1,16 @@
 -- The function that runs in a safe state, and what an instruction does to it.
-use Rattle.std.proofs.Common.{◌≡◌, refl, sym, ap, ◌∙◌, ℕ, zero, suc, ◌+◌, ◌-◌, ◌<◌, ◌≤◌, Bool, true, false, List, [], ◌∷◌, ◌++◌, length, replicate, get_or, set, Option, Some, None, arith, subst, nat_eq, nat_lt, length-set, append-nil}
-use Rattle.std.specs.Prelude.{if◌then◌else◌, slice_index_or, slice_set}
+use Rattle.std.proofs.Common.{◌≡◌, refl, sym, ap, ◌∙◌, ℕ, zero, suc, Bool, true, false, List, [], ◌∷◌, length, set, subst, nat_eq, nat_lt, length-set}
+use Rattle.std.specs.Prelude.{if◌then◌else◌}
 use Rattle.value_model.specs.Values.{Value, Nil}
 use Rattle.value_model.specs.Errors.{RunError}
-use Rattle.value_model.specs.Store.{Store, here, place_of_running}
-use Rattle.value_model.specs.CoroutineRows.{coroutine_of, dead}
-use Rattle.value_model.specs.Waits.{Wait, Runs, Waits, waiting, ByLibrary, Stopped, Stuck}
-use Rattle.value_model.specs.Choices.{Outcome, Done, CallThis, Errs, Halts, Choice}
+use Rattle.value_model.specs.Store.{here}
+use Rattle.value_model.specs.Waits.{Wait, Runs, waiting}
 use Rattle.op_words.specs.Chunks.{ChunkOf, ProtoOf}
 use Rattle.machine_meaning.specs.States as states
 use Rattle.machine_meaning.specs.States.{Register, Registers, Val, Open, Purpose, Idle, Frame, Focus, Run, GiveAll, Invoke, Fault, World, Inside, put, trimmed, ended, held, value_in, values_in, with_cells, write, adjusted, closed}
-use Rattle.machine_meaning.specs.Moves.{Row, Look, asked, state, now, at, go, charge, inside, give, store_of, with_store, first, rest, waits_for, saved, comes, settle, fault}
+use Rattle.machine_meaning.specs.Moves.{state, at, inside, give, store_of, first, rest}
 use Rattle.checked_runs.specs.Places.{IsPlace}
-use Rattle.checked_runs.specs.Safe.{Each, Sizes, IsMade, AreMade, IsStore, IsRegister, IsFrame, Awaits, IsWaiting, AreStacked, AreLeft, AreWaits, IsWorld, IsActive, AreDoing, IsSafe, IsSafeMove}
-use Rattle.checked_runs.specs.Keeps.{Keeps, OutcomeIsMade, ChoiceIsMade}
+use Rattle.checked_runs.specs.Safe.{Sizes, IsMade, AreMade, IsRegister, IsFrame, AreStacked, AreLeft, IsWorld, IsActive, IsSafe, IsSafeMove}
 use Rattle.checked_runs.proofs.Elements.{each_or, each_set}
 
 -- the function that runs, those that wait below it, and what all share

@@ -1,18 +1,17 @@
 -- What waits in all coroutines, with the functions of all of them, when a call is decided.
-use Rattle.std.proofs.Common.{◌≡◌, refl, sym, ap, ◌∙◌, ℕ, zero, suc, ◌+◌, ◌-◌, ◌<◌, ◌≤◌, Bool, true, false, List, [], ◌∷◌, ◌++◌, length, replicate, get_or, set, Option, Some, None, arith, subst, nat_eq, length-set, length-append}
-use Rattle.std.specs.Prelude.{MatchOption, slice_index_or, slice_set, if◌then◌else◌}
+use Rattle.std.proofs.Common.{◌≡◌, refl, sym, ap, ◌∙◌, ℕ, zero, suc, ◌-◌, ◌<◌, ◌≤◌, Bool, true, false, List, [], ◌∷◌, ◌++◌, length, replicate, get_or, set, Option, Some, None, arith, subst, nat_eq, length-set, length-append}
 use Rattle.std.proofs.lemmas.Bool.Decides.{nat_tests}
 use Rattle.value_model.specs.declared.kind.CoStatus.{CoStatus}
-use Rattle.value_model.specs.declared.kind.CoStatus.TheVariants.{Running, Suspended, Normal, Dead}
-use Rattle.value_model.specs.Values.{Value, Nil, TableRef}
+use Rattle.value_model.specs.declared.kind.CoStatus.TheVariants.{Running, Normal}
+use Rattle.value_model.specs.Values.{Nil, TableRef}
 use Rattle.value_model.specs.Store.{Store, CoroutineOf, here, place_of_running, with_environment}
 use Rattle.value_model.specs.CoroutineRows.{coroutine_of, with_coroutine, dead}
 use Rattle.value_model.specs.Waits.{Wait, Runs, Protects, Guards, Handles, Resumes, Asks, Waits, waiting, with_waiting, leave, await, rest_of}
 use Rattle.value_model.specs.Waiting.{with_status, becomes, resumed, left, for_all}
 use Rattle.op_words.specs.Chunks.{ChunkOf}
 use Rattle.machine_meaning.specs.States.{Frame}
-use Rattle.machine_meaning.specs.Calls.{is_dead, put}
-use Rattle.checked_runs.specs.Safe.{Each, Sizes, IsMade, AreMade, IsResumer, IsCoroutine, IsStore, IsWait, AreWaits, AreStacked, AreLeft}
+use Rattle.machine_meaning.specs.Calls.{is_dead}
+use Rattle.checked_runs.specs.Safe.{Each, Sizes, IsResumer, IsCoroutine, IsStore, IsWait, AreStacked, AreLeft}
 use Rattle.checked_runs.specs.Keeps.{Keeps, IsOwnWait}
 use Rattle.checked_runs.proofs.Elements.{each_or, each_set, each_append}
 use Rattle.checked_runs.proofs.Waits.{set_here, set_elsewhere, here_below}

@@ -1,22 +1,20 @@
 -- A step of well-formed code leads from a safe state to a safe state.
-use Rattle.std.proofs.Common.{◌≡◌, refl, sym, ap, ◌∙◌, ℕ, zero, suc, ◌+◌, ◌<◌, ℤ, pos, Bool, true, false, List, [], ◌∷◌, length, Option, Some, None, arith, subst}
-use Rattle.value_model.specs.Values.{Value, Text}
-use Rattle.value_model.specs.Errors.{error_text}
+use Rattle.std.proofs.Common.{◌≡◌, refl, sym, ap, ℕ, Bool, true, false, List, [], ◌∷◌, subst}
+use Rattle.value_model.specs.Values.{Value}
 use Rattle.value_model.specs.Store.{here}
 use Rattle.value_model.specs.Waits.{Wait, Runs, Protects, Guards, Handles, Resumes, Asks, waiting, first_of, rest_of, innermost}
 use Rattle.op_words.specs.declared.insn.Insn.{Insn}
 use Rattle.op_words.specs.declared.insn.Insn.TheVariants.{ForNLoop, ForGLoop}
-use Rattle.op_words.specs.Decoding.{insn_at}
 use Rattle.op_words.specs.Chunks.{ChunkOf, ProtoOf}
 use Rattle.machine_meaning.specs.Chunks.{proto_at}
 use Rattle.machine_meaning.specs.WellFormed.{IsWellFormed}
-use Rattle.machine_meaning.specs.States.{Frame, Focus, Run, Charged, GiveAll, Join, Follow, Invoke, Hand, Fault, Raise, World, State}
+use Rattle.machine_meaning.specs.States.{Frame, Focus, Run, Charged, GiveAll, Join, Follow, Invoke, Hand, Fault, Raise, World}
 use Rattle.machine_meaning.specs.Moves.{store_of}
 use Rattle.machine_meaning.specs.Effects.{bounds_in, charged}
 use Rattle.machine_meaning.specs.Calls.{is_function, hand, raise, without_first}
-use Rattle.machine_meaning.specs.Steps.{code_of, act, act_charged, rows, inside, moves, step}
+use Rattle.machine_meaning.specs.Steps.{code_of, act, act_charged, rows, inside, moves}
 use Rattle.checked_runs.specs.Places.{IsPlace}
-use Rattle.checked_runs.specs.Safe.{Sizes, IsMade, AreMade, IsFrame, Awaits, AreStacked, AreLeft, IsWorld, IsActive, IsLoop, AreDoing, IsSafe, IsSafeMove, is_loop}
+use Rattle.checked_runs.specs.Safe.{Sizes, IsMade, AreMade, IsFrame, Awaits, AreStacked, AreLeft, IsWorld, IsActive, IsLoop, AreDoing, IsSafeMove, is_loop}
 use Rattle.checked_runs.specs.Keeps.{LibraryKeeps}
 use Rattle.checked_runs.specs.Laws.{StepsStaySafe}
 use Rattle.checked_runs.proofs.Library.{library_keeps}

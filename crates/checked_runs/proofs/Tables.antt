@@ -1,20 +1,19 @@
 -- Tables that instructions make and write, and what a generic loop goes over.
-use Rattle.std.proofs.Common.{◌≡◌, refl, sym, ap, ◌∙◌, ℕ, zero, suc, ◌+◌, ◌<◌, ℤ, pos, Bool, true, false, List, [], ◌∷◌, ◌++◌, length, Option, Some, None, Ok, Err, Result, arith, append-nil, codes}
-use Rattle.std.specs.Prelude.{IfOk, slice_index_or}
-use Rattle.value_model.specs.declared.builtin.Builtin.TheVariants as builtin
-use Rattle.value_model.specs.Values.{Value, Nil, Number, Table, Closure, Native, Host, Wrap, TableRef, Bytes}
+use Rattle.std.proofs.Common.{refl, sym, ℕ, suc, pos, List, [], ◌∷◌, Ok, Err, Result, append-nil, codes}
+use Rattle.std.specs.Prelude.{IfOk}
+use Rattle.value_model.specs.Values.{Value, Nil, Number, Table, Closure, Native, Host, Wrap, TableRef}
 use Rattle.value_model.specs.Errors.{RunError}
 use Rattle.value_model.specs.Store.{Store, TableOf, empty_table, table_at, with_table, next_table, with_new_table}
 use Rattle.value_model.specs.CoroutineRows.{coroutine_of}
 use Rattle.value_model.specs.Tables.{set as set_key}
 use Rattle.value_model.specs.Metamethods.{metamethod}
-use Rattle.value_model.specs.Loops.{Iteration, Generates, CallsIter, NotIterable, iteration, over, over_table}
+use Rattle.value_model.specs.Loops.{iteration, over, over_table}
 use Rattle.op_words.specs.Chunks.{ChunkOf, ProtoOf}
 use Rattle.machine_meaning.specs.States.{Frame, World}
-use Rattle.machine_meaning.specs.Moves.{store_of, with_store}
+use Rattle.machine_meaning.specs.Moves.{store_of}
 use Rattle.machine_meaning.specs.Effects.{set_list, stored, store_list, new_table}
 use Rattle.checked_runs.specs.Places.{IsPlace}
-use Rattle.checked_runs.specs.Safe.{Each, Sizes, IsMade, AreMade, IsTable, IsStore, IsSafeMove}
+use Rattle.checked_runs.specs.Safe.{Sizes, IsMade, AreMade, IsTable, IsStore, IsSafeMove}
 use Rattle.checked_runs.specs.Keeps.{Keeps}
 use Rattle.checked_runs.proofs.Elements.{each_append}
 use Rattle.checked_runs.proofs.Settings.{Setting, goes, faults, gives}

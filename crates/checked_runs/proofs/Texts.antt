@@ -1,11 +1,11 @@
 -- Library functions of numbers, texts and coroutines that leave the store as it is.
-use Rattle.std.proofs.Common.{◌≡◌, refl, sym, ap, ◌∙◌, ℕ, zero, suc, ◌-◌, ◌<◌, ℤ, pos, negsuc, ◌+ℤ◌, Bool, true, false, List, [], ◌∷◌, ◌++◌, length, map, drop, Option, Some, None, nat_eq}
-use Rattle.std.specs.Prelude.{MatchOption, slice_get, if◌then◌else◌, nat_le, int_lt}
+use Rattle.std.proofs.Common.{ℕ, zero, suc, ℤ, pos, negsuc, ◌+ℤ◌, Bool, true, false, List, [], ◌∷◌, ◌++◌, length, map, drop, Option, Some, None}
+use Rattle.std.specs.Prelude.{if◌then◌else◌, nat_le, int_lt}
 use Rattle.std.specs.Int.{int_min, int_max}
 use Rattle.value_model.specs.declared.builtin.Builtin.{Builtin}
 use Rattle.value_model.specs.declared.builtin.Builtin.TheVariants as builtin
-use Rattle.value_model.specs.Values.{Bytes, TableRef, Value, Nil, Boolean, Number, Text, Table, Thread}
-use Rattle.value_model.specs.Store.{Store, TableOf, table_at}
+use Rattle.value_model.specs.Values.{Bytes, Value, Nil, Number, Text}
+use Rattle.value_model.specs.Store.{Store, TableOf}
 use Rattle.value_model.specs.Waits.{Continue}
 use Rattle.value_model.specs.Tables as tables
 use Rattle.value_model.specs.Metamethods.{as_text, longest_string}
@@ -19,9 +19,9 @@ use Rattle.value_model.specs.StringRows as string
 use Rattle.value_model.specs.FormatRows as format
 use Rattle.value_model.specs.TableRows as table
 use Rattle.value_model.specs.CoroutineRows as co
-use Rattle.checked_runs.specs.Safe.{Each, IsMade, AreMade, IsTable, IsStore, IsResumer}
+use Rattle.checked_runs.specs.Safe.{IsMade, AreMade, IsTable, IsStore, IsResumer}
 use Rattle.checked_runs.proofs.Elements.{each_drop}
-use Rattle.checked_runs.proofs.Operations.{get_made, table_made}
+use Rattle.checked_runs.proofs.Operations.{table_made}
 use Rattle.checked_runs.proofs.Arguments as given
 use Rattle.checked_runs.proofs.Arguments.{Holds}
 use Rattle.checked_runs.proofs.Reading as reading

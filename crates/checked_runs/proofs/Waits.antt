@@ -1,15 +1,14 @@
 -- What waits in the coroutine that runs.
-use Rattle.std.proofs.Common.{◌≡◌, refl, sym, ap, ◌∙◌, ℕ, zero, suc, ◌<◌, ◌≤◌, Bool, true, false, List, [], ◌∷◌, ◌++◌, length, get_or, set, Option, Some, None, arith, subst, nat_eq, length-set, get_or-set_same}
-use Rattle.std.specs.Prelude.{MatchOption, slice_index_or, slice_set}
+use Rattle.std.proofs.Common.{◌≡◌, refl, sym, ap, ◌∙◌, ℕ, zero, suc, ◌<◌, false, List, [], ◌∷◌, length, get_or, set, Option, Some, None, arith, subst, nat_eq, length-set}
 use Rattle.std.proofs.lemmas.Bool.Decides.{nat_tests}
 use Rattle.value_model.specs.Values.{Value}
 use Rattle.value_model.specs.Store.{Store, here, place_of_running}
-use Rattle.value_model.specs.Waits.{Wait, Runs, Waits, waiting, with_waiting, leave, await, rest_of}
+use Rattle.value_model.specs.Waits.{Wait, Waits, waiting, with_waiting, rest_of}
 use Rattle.op_words.specs.Chunks.{ChunkOf, ProtoOf}
-use Rattle.machine_meaning.specs.States.{Frame, World, Hand}
+use Rattle.machine_meaning.specs.States.{Frame, World}
 use Rattle.machine_meaning.specs.Moves.{store_of}
 use Rattle.machine_meaning.specs.Calls.{hand_back}
-use Rattle.checked_runs.specs.Safe.{Each, Sizes, IsMade, AreMade, IsResumer, IsStore, IsWait, AreWaits, AreStacked, IsWorld, IsSafeMove}
+use Rattle.checked_runs.specs.Safe.{Each, Sizes, AreMade, IsResumer, IsStore, IsWait, AreWaits, AreStacked, IsWorld, IsSafeMove}
 use Rattle.checked_runs.proofs.Elements.{each_or, each_set}
 use Rattle.checked_runs.proofs.Settings.{Setting}
 

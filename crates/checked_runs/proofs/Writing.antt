@@ -1,13 +1,12 @@
 -- Library functions that change tables, or make tables and coroutines.
-use Rattle.std.proofs.Common.{◌≡◌, refl, sym, ap, ◌∙◌, ℕ, zero, suc, ◌+◌, ◌<◌, ℤ, pos, ◌+ℤ◌, Bool, true, false, not, cond, List, [], ◌∷◌, ◌++◌, length, map, filter, replicate, Option, Some, None, Ok, Err, Result, arith, subst, codes, length-append}
+use Rattle.std.proofs.Common.{◌≡◌, refl, sym, ℕ, zero, suc, ◌+◌, ◌<◌, ℤ, pos, ◌+ℤ◌, Bool, true, false, cond, List, [], ◌∷◌, ◌++◌, length, map, filter, replicate, Option, Some, None, Ok, Err, Result, arith, subst, codes, length-append}
 use Rattle.std.specs.Prelude.{MatchOption, IfOk, slice_get, slice_index_or, if◌then◌else◌, nat_le}
-use Rattle.value_model.specs.declared.builtin.Builtin.{Builtin}
 use Rattle.value_model.specs.declared.builtin.Builtin.TheVariants as builtin
 use Rattle.value_model.specs.declared.kind.CoStatus.TheVariants.{Suspended}
 use Rattle.whole_num.specs.Whole.{is_whole}
 use Rattle.whole_num.specs.declared.arithmetic.Stop.TheVariants.{OutOfRange}
-use Rattle.value_model.specs.Values.{Bytes, TableRef, Value, Nil, Boolean, Number, Text, Table, Thread, Wrap}
-use Rattle.value_model.specs.Errors.{RunError, ReadonlyTable, ProtectedMetatable, TooManyValues}
+use Rattle.value_model.specs.Values.{Bytes, TableRef, Value, Nil, Number, Text, Table}
+use Rattle.value_model.specs.Errors.{RunError, ReadonlyTable, ProtectedMetatable}
 use Rattle.value_model.specs.Store.{Store, TableOf, CoroutineOf, empty_table, table_at, with_table}
 use Rattle.value_model.specs.Pairs as pairs
 use Rattle.value_model.specs.Tables as tables

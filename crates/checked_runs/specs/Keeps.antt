@@ -1,5 +1,5 @@
 -- What operations on values and the library keep, so that code finds what it needs.
-use Rattle.std.specs.Prelude.{◌≡◌, ℕ, ◌<◌, Bool, false, List, [], ◌++◌, length, Some}
+use Rattle.std.specs.Prelude.{◌≡◌, ℕ, ◌<◌, List, [], ◌++◌, length, Some}
 use Rattle.value_model.specs.declared.builtin.Builtin.{Builtin}
 use Rattle.value_model.specs.Values.{Value}
 use Rattle.value_model.specs.Store.{CoroutineOf, Store}
@@ -9,7 +9,7 @@ use Rattle.value_model.specs.Answers.{CoMove, Resume, Yield, Close, Whose, OfFun
 use Rattle.value_model.specs.Metamethods.{choose}
 use Rattle.value_model.specs.Library.{lib, go_on}
 use Rattle.machine_meaning.specs.Effects.{under, numbered}
-use Rattle.checked_runs.specs.Safe.{Each, IsMade, AreMade, IsStore, IsWait}
+use Rattle.checked_runs.specs.Safe.{IsMade, AreMade, IsStore, IsWait}
 
 -- the store keeps its functions and its coroutines, to which more may come
 pub record Keeps (n : ℕ) (s t : Store) (more : List CoroutineOf) : Type 0 where

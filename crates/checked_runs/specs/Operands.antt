@@ -1,5 +1,5 @@
 -- What an instruction of well-formed code finds when it is done: its registers, constants, upvalue, child, and the places it leads to.
-use Rattle.std.specs.Prelude.{◌≡◌, ℕ, zero, suc, ◌+◌, ◌<◌, ℤ, Bool, true, false, List, ◌∷◌, length, Option, Some, None, MatchOption}
+use Rattle.std.specs.Prelude.{◌≡◌, ℕ, zero, suc, ◌+◌, ◌<◌, ℤ, true, false, List, length, Option, Some, None, MatchOption}
 use Rattle.std.specs.Option.{option_and_then}
 use Rattle.value_model.specs.declared.event.Reply.{Reply}
 use Rattle.value_model.specs.Fresh.{HostFields}
@@ -12,8 +12,8 @@ use Rattle.op_words.specs.Chunks.{ChunkOf, ProtoOf}
 use Rattle.machine_meaning.specs.Chunks.{proto_at}
 use Rattle.machine_meaning.specs.Constants.{constant_at}
 use Rattle.machine_meaning.specs.Needs.{Range, registers_of, Want, is_wanted, is_sound, constants_of, is_known, is_capture, is_own, upvalue_of, child_of, jump_of, goes_back}
-use Rattle.machine_meaning.specs.WellFormed.{IsWellFormed, is_end, is_closure_or_capture}
-use Rattle.machine_meaning.specs.States.{Frame, Run, State}
+use Rattle.machine_meaning.specs.WellFormed.{is_end, is_closure_or_capture}
+use Rattle.machine_meaning.specs.States.{Frame, State}
 use Rattle.machine_meaning.specs.Moves.{Step}
 use Rattle.machine_meaning.specs.Steps.{step}
 use Rattle.machine_meaning.specs.Runs.{loaded}

@@ -1,6 +1,6 @@
 -- The states that well-formed code comes to.
-use Rattle.std.specs.Prelude.{◌≡◌, ℕ, ◌+◌, ◌<◌, ◌≤◌, ℤ, Bool, true, false, nat_eq, List, [], ◌∷◌, length, Option, Some, None, MatchOption}
-use Rattle.value_model.specs.Values.{Value, Nil, Closure, Wrap, Thread}
+use Rattle.std.specs.Prelude.{◌≡◌, ℕ, ◌<◌, ◌≤◌, Bool, true, false, nat_eq, List, [], ◌∷◌, length, Option, Some, MatchOption}
+use Rattle.value_model.specs.Values.{Value, Closure, Wrap, Thread}
 use Rattle.value_model.specs.Store.{TableOf, CoroutineOf, Store, here}
 use Rattle.value_model.specs.CoroutineRows.{coroutine_of}
 use Rattle.value_model.specs.Waits.{Wait, Runs, Guards, Asks, Waits, waiting}
