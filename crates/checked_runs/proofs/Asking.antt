@@ -52,15 +52,18 @@ varargs_made n false k vs m = tt
 varargs_made n true k vs m = each_drop (IsMade n) k vs m
 
 module _ {chunk : ChunkOf} (well : IsWellFormed chunk) {z : Sizes} where
-  begins : {w : World} (fs : List Frame) → (o : Option ProtoOf) (b : Body) (f : ℕ) (vs : List Value) (rest : List Wait) (go : State → Step) → ((s : State) → IsSafe chunk s → IsSafeMove chunk (go s))
-      → (is : IsBody chunk z b) → o ≡ Some is.code → f < z.functions → AreMade z.functions vs → IsWorld chunk z w → waiting w.waits (here (store_of w)) ≡ Runs f ∷ rest → AreStacked chunk z rest fs
+  begins : {w : World} (fs : List Frame) → (o : Option ProtoOf) (b : Body) (f : ℕ) (vs : List Value) (rest : List Wait) (go : State → Step)
+      → ((s : State) → IsSafe chunk s → IsSafeMove chunk (go s))
+      → (is : IsBody chunk z b) → o ≡ Some is.code → f < z.functions → AreMade z.functions vs → IsWorld chunk z w
+      → waiting w.waits (here (store_of w)) ≡ Runs f ∷ rest → AreStacked chunk z rest fs
       → IsSafeMove chunk (entered (begun o b f vs fs w) go)
   begins fs None b f vs rest go safe is e l m world waits stacked = absurd cc
   begins {w} fs (Some p) b f vs rest go safe is e l m world waits stacked =
       let same : is.code ≡ p = cc in
       let at : proto_at chunk b.proto ≡ Some p = is.is ∙ ap (λ p. Some p) same in
       let start = take p.params vs in
-      let frame : Frame = record { closure = f; proto = b.proto; size = p.registers; upvalues = b.cells; varargs = varargs_of p.vararg p.params vs; place = 0; registers = filled 0 start; top = length start; purpose = Idle } in
+      let frame : Frame =
+      record { closure = f; proto = b.proto; size = p.registers; upvalues = b.cells; varargs = varargs_of p.vararg p.params vs; place = 0; registers = filled 0 start; top = length start; purpose = Idle } in
       safe (state_with Run (frame ∷ fs) w) (record {
         sizes = z;
         world = world;
@@ -85,7 +88,8 @@ module _ {chunk : ChunkOf} (well : IsWellFormed chunk) {z : Sizes} where
         };
       })
 
-  enters : {w : World} (fs : List Frame) → (f : ℕ) (vs : List Value) (rest : List Wait) (go : State → Step) → ((s : State) → IsSafe chunk s → IsSafeMove chunk (go s)) → f < z.functions → AreMade z.functions vs
+  enters : {w : World} (fs : List Frame) → (f : ℕ) (vs : List Value) (rest : List Wait) (go : State → Step)
+      → ((s : State) → IsSafe chunk s → IsSafeMove chunk (go s)) → f < z.functions → AreMade z.functions vs
       → IsWorld chunk z w → waiting w.waits (here (store_of w)) ≡ Runs f ∷ rest → AreStacked chunk z rest fs
       → (o : Option Body) → slice_get w.objects.bodies f ≡ o → IsSafeMove chunk (entered (enter chunk o f vs fs w) go)
   enters {w} fs f vs rest go safe l m world waits stacked None e =
@@ -99,7 +103,8 @@ module _ {chunk : ChunkOf} (well : IsWellFormed chunk) {z : Sizes} where
       let is = each_at (IsBody chunk z) w.objects.bodies f b world.bodies e in
       begins fs (proto_at chunk b.proto) b f vs rest go safe is is.is l m world waits stacked
 
-  calls_closure : {w : World} (fs : List Frame) → (by : Caller) (f : ℕ) (args : List Value) → f < z.functions → AreMade z.functions args → IsWorld chunk z w
+  calls_closure : {w : World} (fs : List Frame) → (by : Caller) (f : ℕ) (args : List Value) → f < z.functions → AreMade z.functions args
+      → IsWorld chunk z w
       → AreStacked chunk z (waiting w.waits (here (store_of w))) fs → IsSafeMove chunk (asks chunk (Called by (Closure f) args) fs w)
   unfolding wait
   calls_closure {w} fs by f args l m world stacked =
@@ -118,7 +123,9 @@ module _ {chunk : ChunkOf} (well : IsWellFormed chunk) {z : Sizes} where
         waits = set.waits;
         imports = set.imports;
       } in
-      subst (λ (b : Bool). IsSafeMove chunk (follows chunk (Enters f args) (to true None) (switched b (here s) (here s) fs next).0 (switched b (here s) (here s) fs next).1)) (sym (same_place (here s)))
+      subst
+      (λ (b : Bool). IsSafeMove chunk (follows chunk (Enters f args) (to true None) (switched b (here s) (here s) fs next).0 (switched b (here s) (here s) fs next).1))
+      (sym (same_place (here s)))
       (enters fs f args rest (to true None) (safe_to chunk true None) l m in_next (waits_here (Runs f ∷ rest) world.store world.waits) stacked (slice_get w.objects.bodies f) refl)
 
 -- ---- a decision
@@ -150,21 +157,27 @@ module _ {chunk : ChunkOf} {z : Sizes} where
       by j true e = let same : here (store_of w) ≡ j = grind (arith, nat_tests) in subst (λ j. AreStacked chunk z (waiting w.waits j) fs) same st
       by j false e = i.waits.stacked j e
 
-  safe_answer : (a : Answer) (b : Bool) (e : Option EventKind) (fs : List Frame) (w : World) → IsAnswer z.functions a → IsWorld chunk z w → AreStacked chunk z (waiting w.waits (here (store_of w))) fs
+  safe_answer : (a : Answer) (b : Bool) (e : Option EventKind) (fs : List Frame) (w : World) → IsAnswer z.functions a → IsWorld chunk z w
+      → AreStacked chunk z (waiting w.waits (here (store_of w))) fs
       → IsSafeMove chunk (follows chunk a (to b e) fs w)
   safe_answer (Gives vs) b e fs w m i st = safe_to chunk b e (state_with (Hand vs) fs w) (record { sizes = z; world = i; doing = (m, st) })
   safe_answer (Enters f vs) b e fs w m i st = absurd m
-  safe_answer (Calls by f vs) b e fs w m i st = safe_to chunk b e (state_with (Invoke by f vs) fs w) (record { sizes = z; world = i; doing = (m.0, m.1, st) })
+  safe_answer (Calls by f vs) b e fs w m i st =
+      safe_to chunk b e (state_with (Invoke by f vs) fs w) (record { sizes = z; world = i; doing = (m.0, m.1, st) })
   safe_answer (Throws (Fails x)) b e fs w m i st =
-      safe_to chunk b e (state_with (Fault x) fs w) (record { sizes = z; world = i; doing = stacked_left chunk z (waiting w.waits (here (store_of w))) fs st })
+      safe_to chunk b e (state_with (Fault x) fs w)
+      (record { sizes = z; world = i; doing = stacked_left chunk z (waiting w.waits (here (store_of w))) fs st })
   safe_answer (Throws (Raises v origin)) b e fs w m i st =
-      safe_to chunk b e (state_with (Raise v) fs w) (record { sizes = z; world = i; doing = (m, stacked_left chunk z (waiting w.waits (here (store_of w))) fs st) })
+      safe_to chunk b e (state_with (Raise v) fs w)
+      (record { sizes = z; world = i; doing = (m, stacked_left chunk z (waiting w.waits (here (store_of w))) fs st) })
   safe_answer (Stops stop) b e fs w m i st = λ e. absurd cc
   safe_answer (Finishes vs) b e fs w m i st = λ e. absurd cc
   safe_answer (Dies v) b e fs w m i st = λ e. absurd cc
 
-  world_of : (a : Waited) (w : World) (elsewhere : ℕ → List Frame) → IsRest chunk z w → (frames : ℕ → List Frame) → IsSettled chunk z a.store a.waits frames
-      → ((j : ℕ) → nat_eq j (here a.store) ≡ false → AreStacked chunk z (waiting a.waits j) (elsewhere j)) → IsWorld chunk z (record (world_after a w) { elsewhere = elsewhere })
+  world_of : (a : Waited) (w : World) (elsewhere : ℕ → List Frame) → IsRest chunk z w → (frames : ℕ → List Frame)
+      → IsSettled chunk z a.store a.waits frames
+      → ((j : ℕ) → nat_eq j (here a.store) ≡ false → AreStacked chunk z (waiting a.waits j) (elsewhere j))
+      → IsWorld chunk z (record (world_after a w) { elsewhere = elsewhere })
   world_of a w elsewhere r frames i st = record {
     functions = r.functions;
     environments = i.environments;
@@ -176,23 +189,29 @@ module _ {chunk : ChunkOf} {z : Sizes} where
     imports = r.imports;
   }
 
-  switches : (a : Waited) (fs : List Frame) (w : World) (from : ℕ) (b : Bool) → nat_eq from (here a.store) ≡ b → IsRest chunk z w → IsWaited chunk z (put w.elsewhere from fs) a
+  switches : (a : Waited) (fs : List Frame) (w : World) (from : ℕ) (b : Bool) → nat_eq from (here a.store) ≡ b → IsRest chunk z w
+      → IsWaited chunk z (put w.elsewhere from fs) a
       → IsSafeMove chunk (follows chunk a.answer (to a.charged a.event) (switched b from (here a.store) fs (world_after a w)).0 (switched b from (here a.store) fs (world_after a w)).1)
   switches a fs w from true e r i =
       let same : here a.store ≡ from = grind (arith, nat_tests) in
-      let mine : AreStacked chunk z (waiting a.waits from) fs = subst (λ (b : Bool). AreStacked chunk z (waiting a.waits from) (if b then fs else w.elsewhere from)) (same_place from) (i.settled.stacked from) in
+      let mine : AreStacked chunk z (waiting a.waits from) fs =
+      subst (λ (b : Bool). AreStacked chunk z (waiting a.waits from) (if b then fs else w.elsewhere from)) (same_place from) (i.settled.stacked from)
+      in
       safe_answer a.answer a.charged a.event fs (world_after a w) i.answer
       (world_of a w w.elsewhere r (put w.elsewhere from fs) i.settled (λ j e. let other : nat_eq j from ≡ false = sym (ap (nat_eq j) same) ∙ e in subst (λ (b : Bool). AreStacked chunk z (waiting a.waits j) (if b then fs else w.elsewhere j)) other (i.settled.stacked j)))
       (subst (λ k. AreStacked chunk z (waiting a.waits k) fs) (sym same) mine)
   switches a fs w from false e r i =
       let next = here a.store in
       let other : nat_eq next from ≡ false = grind (arith, nat_tests) in
-      let theirs : AreStacked chunk z (waiting a.waits next) (w.elsewhere next) = subst (λ (b : Bool). AreStacked chunk z (waiting a.waits next) (if b then fs else w.elsewhere next)) other (i.settled.stacked next) in
-      safe_answer a.answer a.charged a.event (w.elsewhere next) (record (world_after a w) { elsewhere = put (put w.elsewhere from fs) next [] }) i.answer
+      let theirs : AreStacked chunk z (waiting a.waits next) (w.elsewhere next) =
+      subst (λ (b : Bool). AreStacked chunk z (waiting a.waits next) (if b then fs else w.elsewhere next)) other (i.settled.stacked next) in
+      safe_answer a.answer a.charged a.event (w.elsewhere next) (record (world_after a w) { elsewhere = put (put w.elsewhere from fs) next [] })
+      i.answer
       (world_of a w (put (put w.elsewhere from fs) next []) r (put w.elsewhere from fs) i.settled (λ j e. subst (λ (b : Bool). AreStacked chunk z (waiting a.waits j) (if b then [] else put w.elsewhere from fs j)) (sym e) (i.settled.stacked j)))
       theirs
 
-  pub decides : (a : Waited) (fs : List Frame) (w : World) → IsRest chunk z w → IsWaited chunk z (put w.elsewhere (here (store_of w)) fs) a → IsSafeMove chunk (decided chunk a fs w)
+  pub decides : (a : Waited) (fs : List Frame) (w : World) → IsRest chunk z w → IsWaited chunk z (put w.elsewhere (here (store_of w)) fs) a
+      → IsSafeMove chunk (decided chunk a fs w)
   decides a fs w r i = switches a fs w (here (store_of w)) (nat_eq (here (store_of w)) (here a.store)) refl r i
 
 -- ---- a coroutine that a call closes
@@ -208,13 +227,15 @@ close_stays Normal k ws s = refl
 close_stays Suspended k ws s = dead_stays (coroutine_of s k).failure k ws s
 close_stays Dead k ws s = dead_stays (coroutine_of s k).failure k ws s
 
-closing_stays : (by : Caller) (k : ℕ) (vs : List Value) (r : Option Reply) (ws : Waits) (s : Store) → here (deciding.called by (Native builtin.CoroutineClose) (Thread k ∷ vs) r ws s).store ≡ here s
+closing_stays : (by : Caller) (k : ℕ) (vs : List Value) (r : Option Reply) (ws : Waits) (s : Store)
+    → here (deciding.called by (Native builtin.CoroutineClose) (Thread k ∷ vs) r ws s).store ≡ here s
 unfolding lib
 closing_stays ByLibrary k vs r ws s = refl
 closing_stays ByScript k vs r ws s = close_stays (coroutine_of s k).status k ws s
 
 module _ {chunk : ChunkOf} {z : Sizes} where
-  refit : (a : Waited) (fs : List Frame) (elsewhere : ℕ → List Frame) (from k : ℕ) → here a.store ≡ from → is_dead (coroutine_of a.store k).status ≡ true → IsSettled chunk z a.store a.waits (put elsewhere from fs)
+  refit : (a : Waited) (fs : List Frame) (elsewhere : ℕ → List Frame) (from k : ℕ) → here a.store ≡ from
+      → is_dead (coroutine_of a.store k).status ≡ true → IsSettled chunk z a.store a.waits (put elsewhere from fs)
       → IsSettled chunk z a.store a.waits (put (put elsewhere k []) from fs)
   refit a fs elsewhere from k same dead i = record {
     store = i.store;
@@ -225,7 +246,8 @@ module _ {chunk : ChunkOf} {z : Sizes} where
     dead = i.dead;
   }
     where
-      by : (j : ℕ) (b : Bool) → nat_eq j from ≡ b → AreStacked chunk z (waiting a.waits j) (if b then fs else elsewhere j) → (c : Bool) → nat_eq j k ≡ c
+      by : (j : ℕ) (b : Bool) → nat_eq j from ≡ b → AreStacked chunk z (waiting a.waits j) (if b then fs else elsewhere j) → (c : Bool)
+          → nat_eq j k ≡ c
           → AreStacked chunk z (waiting a.waits j) (if b then fs else (if c then [] else elsewhere j))
       by j true e st c g = st
       by j false e st true g =
@@ -233,22 +255,27 @@ module _ {chunk : ChunkOf} {z : Sizes} where
           i.dead j (ap (nat_eq j) same ∙ e) (sym (ap (λ k. is_dead (coroutine_of a.store k).status) is) ∙ dead)
       by j false e st false g = st
 
-  closes_by : (a : Waited) (fs : List Frame) (w : World) (k : ℕ) (b : Bool) → is_dead (coroutine_of a.store k).status ≡ b → here a.store ≡ here (store_of w) → IsRest chunk z w
-      → IsWaited chunk z (put w.elsewhere (here (store_of w)) fs) a → IsSafeMove chunk (decided chunk a fs (if b then record w { elsewhere = put w.elsewhere k [] } else w))
+  closes_by : (a : Waited) (fs : List Frame) (w : World) (k : ℕ) (b : Bool) → is_dead (coroutine_of a.store k).status ≡ b
+      → here a.store ≡ here (store_of w) → IsRest chunk z w
+      → IsWaited chunk z (put w.elsewhere (here (store_of w)) fs) a
+      → IsSafeMove chunk (decided chunk a fs (if b then record w { elsewhere = put w.elsewhere k [] } else w))
   closes_by a fs w k true dead same r i =
-      decides a fs (record w { elsewhere = put w.elsewhere k [] }) (record { functions = r.functions; cells = r.cells; bodies = r.bodies; values = r.values; imports = r.imports })
+      decides a fs (record w { elsewhere = put w.elsewhere k [] })
+      (record { functions = r.functions; cells = r.cells; bodies = r.bodies; values = r.values; imports = r.imports })
       (record { answer = i.answer; settled = refit a fs w.elsewhere (here (store_of w)) k same dead i.settled })
   closes_by a fs w k false dead same r i = decides a fs w r i
 
   closes_or : (by : Caller) (f : Value) (args : List Value) (r : Option Reply) (a : Waited) (fs : List Frame) (w : World)
       → ((k : ℕ) (vs : List Value) → f ≡ Native builtin.CoroutineClose → args ≡ Thread k ∷ vs → here a.store ≡ here (store_of w)) → IsRest chunk z w
-      → IsWaited chunk z (put w.elsewhere (here (store_of w)) fs) a → IsSafeMove chunk (decided chunk a fs (without_closed (Called by f args) a.store w))
+      → IsWaited chunk z (put w.elsewhere (here (store_of w)) fs) a
+      → IsSafeMove chunk (decided chunk a fs (without_closed (Called by f args) a.store w))
   closes_or by (Native builtin.CoroutineClose) (Thread k ∷ vs) r a fs w stays rest i =
       closes_by a fs w k (is_dead (coroutine_of a.store k).status) refl (stays k vs refl refl) rest i
   closes_or by f args r a fs w stays rest i = decides a fs w rest i
 
 module _ {chunk : ChunkOf} (well : IsWellFormed chunk) (library : LibraryKeeps) {z : Sizes} where
-  calls_other : {w : World} (fs : List Frame) → (by : Caller) (f : Value) (args : List Value) → is_closure f ≡ false → IsMade z.functions f → AreMade z.functions args → IsWorld chunk z w
+  calls_other : {w : World} (fs : List Frame) → (by : Caller) (f : Value) (args : List Value) → is_closure f ≡ false → IsMade z.functions f
+      → AreMade z.functions args → IsWorld chunk z w
       → AreStacked chunk z (waiting w.waits (here (store_of w))) fs → IsSafeMove chunk (asks chunk (Called by f args) fs w)
   unfolding wait
   calls_other {w} fs by f args e m n i st =
@@ -258,19 +285,22 @@ module _ {chunk : ChunkOf} (well : IsWellFormed chunk) (library : LibraryKeeps) 
       (λ k vs g h. ap (λ f. here (deciding.called by f args r w.waits s).store) g ∙ ap (λ args. here (deciding.called by (Native builtin.CoroutineClose) args r w.waits s).store) h ∙ closing_stays by k vs r w.waits s)
       (rest_of_world i) (called_settled library (settled_world fs i st) by f args r e m n)
 
-  pub calls_value : {w : World} (fs : List Frame) → (by : Caller) (f : Value) (args : List Value) → IsMade z.functions f → AreMade z.functions args → IsWorld chunk z w
+  pub calls_value : {w : World} (fs : List Frame) → (by : Caller) (f : Value) (args : List Value) → IsMade z.functions f → AreMade z.functions args
+      → IsWorld chunk z w
       → AreStacked chunk z (waiting w.waits (here (store_of w))) fs → IsSafeMove chunk (asks chunk (Called by f args) fs w)
   calls_value fs by (Closure f) args m n i st = calls_closure well fs by f args m n i st
   calls_value fs by f args m n i st = calls_other fs by f args refl m n i st
 
-  pub gives_values : {w : World} (fs : List Frame) → (vs : List Value) → AreMade z.functions vs → IsWorld chunk z w → AreStacked chunk z (waiting w.waits (here (store_of w))) fs
+  pub gives_values : {w : World} (fs : List Frame) → (vs : List Value) → AreMade z.functions vs → IsWorld chunk z w
+      → AreStacked chunk z (waiting w.waits (here (store_of w))) fs
       → IsSafeMove chunk (asks chunk (Given vs) fs w)
   unfolding wait
   gives_values {w} fs vs m i st =
       let l = waiting w.waits (here (store_of w)) in
       decides (deciding.given l vs w.waits (store_of w)) fs w (rest_of_world i) (given_settled library (settled_world fs i st) l vs refl m)
 
-  pub passes_error : {w : World} (fs : List Frame) → (v : Value) → IsMade z.functions v → is_function (innermost w.waits (store_of w)) ≡ false → IsWorld chunk z w
+  pub passes_error : {w : World} (fs : List Frame) → (v : Value) → IsMade z.functions v → is_function (innermost w.waits (store_of w)) ≡ false
+      → IsWorld chunk z w
       → AreStacked chunk z (waiting w.waits (here (store_of w))) fs → IsSafeMove chunk (asks chunk (Passed v) fs w)
   unfolding wait
   passes_error {w} fs v m e i st =

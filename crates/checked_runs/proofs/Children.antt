@@ -33,9 +33,12 @@ five true false c d e i = absurd cc
 five false b c d e i = absurd cc
 
 -- a child is a function of the chunk, with a lower number
-pub child_there : (chunk : ChunkOf) (n : ℕ) (p : ProtoOf) → IsSound chunk n p → proto_at chunk n ≡ Some p → (k c : ℕ) → slice_get p.children k ≡ Some c → (q : ProtoOf) × (proto_at chunk c ≡ Some q)
+pub child_there : (chunk : ChunkOf) (n : ℕ) (p : ProtoOf) → IsSound chunk n p → proto_at chunk n ≡ Some p → (k c : ℕ)
+    → slice_get p.children k ≡ Some c → (q : ProtoOf) × (proto_at chunk c ≡ Some q)
 child_there chunk n p s at k c is =
-    let all = five (nat_le 1 p.registers) (nat_le p.registers 250) (nat_le p.params p.registers) (list_all (λ c. nat_lt c n) p.children) (is_prepared p.params p.vararg (lines p.code)) s.proto in
+    let all =
+    five (nat_le 1 p.registers) (nat_le p.registers 250) (nat_le p.params p.registers) (list_all (λ c. nat_lt c n) p.children)
+    (is_prepared p.params p.vararg (lines p.code)) s.proto in
     let lower = all_at (λ c. nat_lt c n) p.children k c all is in
     let few = slice_get_within chunk.protos n p at in
     let below : c < length chunk.protos = grind (arith, nat_tests) in
@@ -49,8 +52,10 @@ same_upvalues : (o : Option ProtoOf) → effects.upvalues_of o ≡ upvalues_of o
 same_upvalues None = refl
 same_upvalues (Some q) = refl
 
-module _ {chunk : ChunkOf} {z : Sizes} {p : ProtoOf} {f : Frame} {fs : List Frame} {w : World} (s : Setting chunk z p f fs w) (sound : IsSound chunk f.proto p) where
-  made_of : (to : ℕ) (d : ℤ) (next : ℕ) → (at : Stands chunk f.proto p f.place (NewClosure to d) next) → (c : ℕ) (q : ProtoOf) → proto_at chunk c ≡ Some q
+module _ {chunk : ChunkOf} {z : Sizes} {p : ProtoOf} {f : Frame} {fs : List Frame} {w : World} (s : Setting chunk z p f fs w)
+    (sound : IsSound chunk f.proto p) where
+  made_of : (to : ℕ) (d : ℤ) (next : ℕ) → (at : Stands chunk f.proto p f.place (NewClosure to d) next) → (c : ℕ) (q : ProtoOf)
+      → proto_at chunk c ≡ Some q
       → nat_eq (leading at.after) (upvalues_at chunk (Some c)) ≡ true → IsSafeMove chunk (new_closure chunk p.code (Some c) to next f fs w)
   made_of to d next at c q is e =
       let count : upvalues_at chunk (Some c) ≡ q.upvalues = ap upvalues_of is in
@@ -59,10 +64,13 @@ module _ {chunk : ChunkOf} {z : Sizes} {p : ProtoOf} {f : Frame} {fs : List Fram
       let start : Taken = record { taken = []; inside = inside f w } in
       let taken : IsTaken chunk z p fs 0 start = record { sizes = z; functions = refl; setting = s; many = refl; taken = tt } in
       let sum : 0 + q.upvalues ≡ q.upvalues = omega arith in
-      let all = all_captured f.proto sound q.upvalues 0 q.upvalues sum at.before (record { place = f.place; insn = NewClosure to d; next = next }) at.after at.split refl lead start taken in
+      let all =
+      all_captured f.proto sound q.upvalues 0 q.upvalues sum at.before (record { place = f.place; insn = NewClosure to d; next = next }) at.after
+      at.split refl lead start taken in
       subst (λ k. IsSafeMove chunk (effects.closure c (captures p.code k next start) to f fs w)) (sym same) (makes_closure s c q _ to is all)
 
-  made_by : (to : ℕ) (d : ℤ) (next : ℕ) → (at : Stands chunk f.proto p f.place (NewClosure to d) next) → (o : Option ℕ) → child_of p d ≡ o → is_some o ≡ true
+  made_by : (to : ℕ) (d : ℤ) (next : ℕ) → (at : Stands chunk f.proto p f.place (NewClosure to d) next) → (o : Option ℕ) → child_of p d ≡ o
+      → is_some o ≡ true
       → nat_eq (leading at.after) (upvalues_at chunk o) ≡ true → ((c : ℕ) → o ≡ Some c → (q : ProtoOf) × (proto_at chunk c ≡ Some q))
       → IsSafeMove chunk (new_closure chunk p.code o to next f fs w)
   made_by to d next at None e i c there = absurd cc
@@ -72,7 +80,8 @@ module _ {chunk : ChunkOf} {z : Sizes} {p : ProtoOf} {f : Frame} {fs : List Fram
   there_is (pos d) c e = child_there chunk f.proto p sound s.frame.code d c e
   there_is (negsuc d) c e = absurd cc
 
-  pub closes_over : (to : ℕ) (d : ℤ) (next : ℕ) → Stands chunk f.proto p f.place (NewClosure to d) next → IsSafeMove chunk (new_closure chunk p.code (child_at chunk f d) to next f fs w)
+  pub closes_over : (to : ℕ) (d : ℤ) (next : ℕ) → Stands chunk f.proto p f.place (NewClosure to d) next
+      → IsSafeMove chunk (new_closure chunk p.code (child_at chunk f d) to next f fs w)
   closes_over to d next at =
       let pairs = three (captures_well chunk p at.after (NewClosure to d)) _ _ at.rules.pairs in
       subst (λ o. IsSafeMove chunk (new_closure chunk p.code o to next f fs w)) (sym (child_is chunk p f d s.frame.code))
@@ -104,7 +113,8 @@ called (Move a b) c e = let no : (nat_eq a b && false) ≡ true = e in absurd (e
     ended false e = absurd cc
 called m c e = absurd cc
 
-pub call_found : (chunk : ChunkOf) (n : ℕ) (p : ProtoOf) → IsSound chunk n p → (before : List Line) (l : Line) (after : List Line) → lines p.code ≡ before ++ l ∷ after
+pub call_found : (chunk : ChunkOf) (n : ℕ) (p : ProtoOf) → IsSound chunk n p → (before : List Line) (l : Line) (after : List Line)
+    → lines p.code ≡ before ++ l ∷ after
     → (over : ℕ) → is_move_and_call over l.place after ≡ true → IsCallOver p p.code (l.place + 1 + over)
 call_found chunk n p s before l [] split over e = absurd cc
 call_found chunk n p s before l (m ∷ []) split over e = absurd cc

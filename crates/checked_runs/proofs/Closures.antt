@@ -32,7 +32,8 @@ pub cell_more : (z : Sizes) → AreMore z (one_cell_more z)
 cell_more z = record { functions = omega arith; cells = omega arith }
 
 -- a new cell
-pub with_cell : {chunk : ChunkOf} {z : Sizes} {p : ProtoOf} {f : Frame} {fs : List Frame} {w : World} → (v : Value) → Setting chunk z p f fs w → IsMade z.functions v
+pub with_cell : {chunk : ChunkOf} {z : Sizes} {p : ProtoOf} {f : Frame} {fs : List Frame} {w : World} → (v : Value) → Setting chunk z p f fs w
+    → IsMade z.functions v
     → Setting chunk (one_cell_more z) p f fs (with_cells (w.objects.cells ++ v ∷ []) w)
 with_cell {chunk} {z} {p} {f} {fs} {w} v s m =
     let y = one_cell_more z in
@@ -99,13 +100,16 @@ module _ {chunk : ChunkOf} {z : Sizes} {p : ProtoOf} {fs : List Frame} {count : 
       record {
         sizes = one_cell_more is.sizes;
         functions = is.functions;
-        setting = with_frame (record t.inside.frame { registers = states.put t.inside.frame.registers r (Open (length cells)) }) s (put_register r (Open (length cells)) s.frame fits) refl;
+        setting =
+            with_frame (record t.inside.frame { registers = states.put t.inside.frame.registers r (Open (length cells)) }) s
+            (put_register r (Open (length cells)) s.frame fits) refl;
         many = omega (arith, length-append t.taken (length cells ∷ []), is.many);
         taken = each_append (λ c. c < is.sizes.cells + 1) t.taken (length cells ∷ []) old_taken (fits, tt);
       }
 
   -- an instruction that captures, as the rules have it
-  pub takes_one : (kind from : ℕ) → is_known (Capture kind from) ≡ true → all_below p.upvalues (upvalue_of (Capture kind from)) ≡ true → IsTaken chunk z p fs (count + 1) (capture kind from t)
+  pub takes_one : (kind from : ℕ) → is_known (Capture kind from) ≡ true → all_below p.upvalues (upvalue_of (Capture kind from)) ≡ true
+      → IsTaken chunk z p fs (count + 1) (capture kind from t)
   takes_one zero from k u = takes_copy from
   takes_one (suc zero) from k u = takes_register (t.inside.frame.registers from) from (is.setting.frame.registers from)
   takes_one (suc (suc zero)) from k u =
@@ -129,7 +133,8 @@ capture_goes insn c = absurd cc
 
 one_captured : {chunk : ChunkOf} {z : Sizes} {p : ProtoOf} {fs : List Frame} (count total : ℕ) (t : Taken) (insn : Insn) (next : ℕ) (more : ℕ → Taken → Option (Taken × ℕ))
     → is_capture insn ≡ true → is_known insn ≡ true → all_below p.upvalues (upvalue_of insn) ≡ true → IsTaken chunk z p fs count t
-    → ((u : Taken) → IsTaken chunk z p fs (count + 1) u → IsCaptured chunk z p fs total (more next u)) → IsCaptured chunk z p fs total (captured (Some (insn, next)) t more)
+    → ((u : Taken) → IsTaken chunk z p fs (count + 1) u → IsCaptured chunk z p fs total (more next u))
+    → IsCaptured chunk z p fs total (captured (Some (insn, next)) t more)
 one_captured count total t (Capture kind from) next more c k u is go = go (capture kind from t) (takes_one t is kind from k u)
 one_captured count total t insn next more c k u is go = absurd cc
 
@@ -156,7 +161,8 @@ behind_captures chunk n p s before l (m ∷ after) split goes none =
       runs = none_leads (is_capture m.insn) (leading after) none;
     }
 
-pub all_captured : {chunk : ChunkOf} {z : Sizes} {p : ProtoOf} {fs : List Frame} (n : ℕ) → IsSound chunk n p → (more count total : ℕ) → count + more ≡ total
+pub all_captured : {chunk : ChunkOf} {z : Sizes} {p : ProtoOf} {fs : List Frame} (n : ℕ) → IsSound chunk n p → (more count total : ℕ)
+    → count + more ≡ total
     → (before : List Line) (l : Line) (after : List Line) → lines p.code ≡ before ++ l ∷ after → is_end l.insn ≡ false → leading after ≡ more
     → (t : Taken) → IsTaken chunk z p fs count t → IsCaptured chunk z p fs total (captures p.code more l.next t)
 all_captured {chunk} {z} {p} {fs} n s zero count total sum before l after split goes lead t is = record {
@@ -171,7 +177,8 @@ all_captured {chunk} {z} {p} {fs} n s (suc more) count total sum before l (m ∷
     let read = line_read p.code before l (m ∷ after) split in
     let there : m.place ≡ l.next = first_line read.more p.code l.next m after read.rest in
     let next_split : lines p.code ≡ (before ++ l ∷ []) ++ m ∷ after = split ∙ sym (append_assoc before (l ∷ []) (m ∷ after)) in
-    let at : insn_at p.code l.next ≡ Some (m.insn, m.next) = sym (ap (insn_at p.code) there) ∙ (line_read p.code (before ++ l ∷ []) m after next_split).read in
+    let at : insn_at p.code l.next ≡ Some (m.insn, m.next) =
+    sym (ap (insn_at p.code) there) ∙ (line_read p.code (before ++ l ∷ []) m after next_split).read in
     let rules = rules_kept chunk n p s (before ++ l ∷ []) m after next_split in
     let leads = one_leads (is_capture m.insn) (leading after) more lead in
     subst (λ o. IsCaptured chunk z p fs total (captured o t (λ next u. captures p.code more next u))) (sym at)
@@ -186,7 +193,8 @@ one_function_more z = record { functions = z.functions + 1; cells = z.cells }
 pub function_more : (z : Sizes) → AreMore z (one_function_more z)
 function_more z = record { functions = omega arith; cells = omega arith }
 
-pub with_function : {chunk : ChunkOf} {z : Sizes} {p : ProtoOf} {f : Frame} {fs : List Frame} {w : World} → (env : TableRef) (b : Body) → Setting chunk z p f fs w → IsBody chunk z b
+pub with_function : {chunk : ChunkOf} {z : Sizes} {p : ProtoOf} {f : Frame} {fs : List Frame} {w : World} → (env : TableRef) (b : Body)
+    → Setting chunk z p f fs w → IsBody chunk z b
     → Setting chunk (one_function_more z) p f fs (record w { objects = with_new_closure w.objects env b })
 unfolding coroutine_of
 with_function {chunk} {z} {p} {f} {fs} {w} env b s m =
@@ -200,9 +208,12 @@ with_function {chunk} {z} {p} {f} {fs} {w} env b s m =
         functions = omega (arith, length-append w.objects.bodies (b ∷ []), i.functions);
         environments = omega (arith, length-append (store_of w).closures (env ∷ []), i.environments);
         cells = i.cells;
-        bodies = each_append (IsBody chunk y) w.objects.bodies (b ∷ []) (each_map (IsBody chunk z) (IsBody chunk y) (body_more z y more) w.objects.bodies i.bodies) (body_more z y more b m, tt);
+        bodies =
+            each_append (IsBody chunk y) w.objects.bodies (b ∷ [])
+            (each_map (IsBody chunk z) (IsBody chunk y) (body_more z y more) w.objects.bodies i.bodies) (body_more z y more b m, tt);
         values = values_more z y more w.objects.cells i.values;
-        store = record { shared = store.shared; tables = store.tables; coroutines = store.coroutines; some = store.some; running = store.running; main = store.main };
+        store =
+            record { shared = store.shared; tables = store.tables; coroutines = store.coroutines; some = store.some; running = store.running; main = store.main };
         waits = record { enough = waits.enough; each = waits.each; stacked = waits.stacked; dead = waits.dead };
         imports = λ p k. option_more (IsMade z.functions) (IsMade y.functions) (value_more z y more) (w.imports p k) (i.imports p k);
       };
@@ -212,7 +223,8 @@ with_function {chunk} {z} {p} {f} {fs} {w} env b s m =
       stacked = stacked_more z y more chunk s.below fs s.stacked;
     }
 
-pub makes_closure : {chunk : ChunkOf} {z : Sizes} {p : ProtoOf} {f : Frame} {fs : List Frame} {w : World} → Setting chunk z p f fs w → (c : ℕ) (q : ProtoOf) (o : Option (Taken × ℕ)) (to : ℕ)
+pub makes_closure : {chunk : ChunkOf} {z : Sizes} {p : ProtoOf} {f : Frame} {fs : List Frame} {w : World} → Setting chunk z p f fs w
+    → (c : ℕ) (q : ProtoOf) (o : Option (Taken × ℕ)) (to : ℕ)
     → proto_at chunk c ≡ Some q → IsCaptured chunk z p fs q.upvalues o → IsSafeMove chunk (closure c o to f fs w)
 makes_closure {chunk} {z} {p} {f} {fs} {w} s c q o to at i =
     let t = i.found in

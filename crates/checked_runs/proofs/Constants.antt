@@ -46,19 +46,23 @@ pub record IsKnown (chunk : ChunkOf) (n : ℕ) (k : ℤ) : Type 0 where
   pub is : known chunk n k ≡ Some value
   pub made : (m : ℕ) → IsMade m value
 
-text_known : (chunk : ChunkOf) (i : ℕ) → nat_lt i (length chunk.strings) ≡ true → value_of chunk (constant.Str i) ≡ Some (Text (slice_index_or chunk.strings i []))
+text_known : (chunk : ChunkOf) (i : ℕ) → nat_lt i (length chunk.strings) ≡ true
+    → value_of chunk (constant.Str i) ≡ Some (Text (slice_index_or chunk.strings i []))
 text_known chunk i l =
     let below : i < length chunk.strings = grind (arith, nat_tests) in ap (option_map (λ bs. Text bs)) (slice_get-get_or chunk.strings i [] below)
 
-of_constant : (chunk : ChunkOf) (n : ℕ) (k : ℤ) (v : Value) (c : Const) → constant_at chunk n k ≡ Some c → value_of chunk c ≡ Some v → ((m : ℕ) → IsMade m v) → IsKnown chunk n k
+of_constant : (chunk : ChunkOf) (n : ℕ) (k : ℤ) (v : Value) (c : Const) → constant_at chunk n k ≡ Some c → value_of chunk c ≡ Some v
+    → ((m : ℕ) → IsMade m v) → IsKnown chunk n k
 of_constant chunk n k v c is value made = record { value = v; is = ap (option_and_then (value_of chunk)) is ∙ value; made = made }
 
-value_found : (chunk : ChunkOf) (n : ℕ) (k : ℤ) (c : Const) → constant_at chunk n k ≡ Some c → is_wanted AValue (Some c) ≡ true → is_sound chunk n c ≡ true → IsKnown chunk n k
+value_found : (chunk : ChunkOf) (n : ℕ) (k : ℤ) (c : Const) → constant_at chunk n k ≡ Some c → is_wanted AValue (Some c) ≡ true
+    → is_sound chunk n c ≡ true → IsKnown chunk n k
 value_found chunk n k constant.Nil is w s = of_constant chunk n k Nil constant.Nil is refl (λ m. tt)
 value_found chunk n k constant.False is w s = of_constant chunk n k (Boolean false) constant.False is refl (λ m. tt)
 value_found chunk n k constant.True is w s = of_constant chunk n k (Boolean true) constant.True is refl (λ m. tt)
 value_found chunk n k (constant.Num z) is w s = of_constant chunk n k (Number z) (constant.Num z) is refl (λ m. tt)
-value_found chunk n k (constant.Str i) is w s = of_constant chunk n k (Text (slice_index_or chunk.strings i [])) (constant.Str i) is (text_known chunk i s) (λ m. tt)
+value_found chunk n k (constant.Str i) is w s =
+    of_constant chunk n k (Text (slice_index_or chunk.strings i [])) (constant.Str i) is (text_known chunk i s) (λ m. tt)
 value_found chunk n k (constant.Import word) is w s = absurd cc
 
 pub value_known : (chunk : ChunkOf) (n : ℕ) (k : ℤ) → IsConstant chunk n k AValue → IsKnown chunk n k
@@ -78,7 +82,8 @@ pub record IsNamed (chunk : ChunkOf) (n k : ℕ) : Type 0 where
   pub is : name_at chunk n k ≡ Some name
   pub known : IsKnown chunk n (pos k)
 
-name_found : (chunk : ChunkOf) (n k : ℕ) (c : Const) → constant_at chunk n (pos k) ≡ Some c → is_wanted AName (Some c) ≡ true → is_sound chunk n c ≡ true → IsNamed chunk n k
+name_found : (chunk : ChunkOf) (n k : ℕ) (c : Const) → constant_at chunk n (pos k) ≡ Some c → is_wanted AName (Some c) ≡ true
+    → is_sound chunk n c ≡ true → IsNamed chunk n k
 name_found chunk n k (constant.Str i) is w s =
     let text = slice_index_or chunk.strings i [] in
     let value : known chunk n (pos k) ≡ Some (Text text) = ap (option_and_then (value_of chunk)) is ∙ text_known chunk i s in
@@ -114,7 +119,8 @@ path_found chunk n word e =
     let i = are_some (name_at chunk n) (indices_of word) names in
     record { names = i.names; is = i.is }
 
-import_found : (chunk : ChunkOf) (n word : ℕ) (c : Const) → is_wanted (AnImport word) (Some c) ≡ true → is_sound chunk n c ≡ true → IsPath chunk n word
+import_found : (chunk : ChunkOf) (n word : ℕ) (c : Const) → is_wanted (AnImport word) (Some c) ≡ true → is_sound chunk n c ≡ true
+    → IsPath chunk n word
 import_found chunk n word (constant.Import w) i s =
     let same : w ≡ word = grind (arith, nat_tests) in path_found chunk n word (ap (is_import chunk n) (sym same) ∙ s)
 import_found chunk n word c i s = absurd cc

@@ -42,44 +42,55 @@ module _ {chunk : ChunkOf} {z : Sizes} {p : ProtoOf} {f : Frame} {fs : List Fram
 
   -- ---- operations
 
-  pub indexes : (base key : Value) (to next : ℕ) → IsMade z.functions base → IsMade z.functions key → IsPlace p next → IsSafeMove chunk (index base key to next f fs w)
+  pub indexes : (base key : Value) (to next : ℕ) → IsMade z.functions base → IsMade z.functions key → IsPlace p next
+      → IsSafeMove chunk (index base key to next f fs w)
   indexes base key to next i j h = settled _ (Into to next) s (choose_made z.functions (store_of w) (Index base key) s.world.store (i, j)) h
 
   pub newindexes : (base key v : Value) (next : ℕ) → IsMade z.functions base → IsMade z.functions key → IsMade z.functions v → IsPlace p next
       → IsSafeMove chunk (newindex base key v next f fs w)
-  newindexes base key v next i j k h = settled _ (Stores next) s (choose_made z.functions (store_of w) (Newindex base key v) s.world.store (i, j, k)) h
+  newindexes base key v next i j k h =
+      settled _ (Stores next) s (choose_made z.functions (store_of w) (Newindex base key v) s.world.store (i, j, k)) h
 
-  pub calculates : (o : ArithOp) (v u : Value) (to next : ℕ) → IsMade z.functions v → IsMade z.functions u → IsPlace p next → IsSafeMove chunk (calculate o v u to next f fs w)
+  pub calculates : (o : ArithOp) (v u : Value) (to next : ℕ) → IsMade z.functions v → IsMade z.functions u → IsPlace p next
+      → IsSafeMove chunk (calculate o v u to next f fs w)
   calculates o v u to next i j h = settled _ (Into to next) s (choose_made z.functions (store_of w) (Arith o v u) s.world.store (i, j)) h
 
-  pub compares : (o : CompareOp) (v u : Value) (b : Bool) (by : ℤ) (next : ℕ) → IsMade z.functions v → IsMade z.functions u → LeadsOn p f.place by → IsPlace p next
+  pub compares : (o : CompareOp) (v u : Value) (b : Bool) (by : ℤ) (next : ℕ) → IsMade z.functions v → IsMade z.functions u → LeadsOn p f.place by
+      → IsPlace p next
       → IsSafeMove chunk (compare o v u b by next f fs w)
-  compares o v u b by next i j l h = settled _ (Compares b by next) s (choose_made z.functions (store_of w) (Compare o v u) s.world.store (i, j)) (l, h)
+  compares o v u b by next i j l h =
+      settled _ (Compares b by next) s (choose_made z.functions (store_of w) (Compare o v u) s.world.store (i, j)) (l, h)
 
-  pub measures : (v : Value) (to next : ℕ) → IsMade z.functions v → IsPlace p next → IsSafeMove chunk (settle (choose (Length v) (store_of w)) (Into to next) f fs w)
+  pub measures : (v : Value) (to next : ℕ) → IsMade z.functions v → IsPlace p next
+      → IsSafeMove chunk (settle (choose (Length v) (store_of w)) (Into to next) f fs w)
   measures v to next i h = settled _ (Into to next) s (choose_made z.functions (store_of w) (Length v) s.world.store i) h
 
-  pub decides : (b : Bool) (v u : Value) (to next : ℕ) → IsMade z.functions v → IsMade z.functions u → IsPlace p next → IsSafeMove chunk (decided b v u to next f fs w)
+  pub decides : (b : Bool) (v u : Value) (to next : ℕ) → IsMade z.functions v → IsMade z.functions u → IsPlace p next
+      → IsSafeMove chunk (decided b v u to next f fs w)
   decides true v u to next i j h = gives s to v next i h
   decides false v u to next i j h = gives s to u next j h
 
-  pub joins : (vs : List Value) (to next : ℕ) → AreMade z.functions vs → is_some_value vs ≡ true → IsPlace p next → IsSafeMove chunk (join vs to next f fs w)
+  pub joins : (vs : List Value) (to next : ℕ) → AreMade z.functions vs → is_some_value vs ≡ true → IsPlace p next
+      → IsSafeMove chunk (join vs to next f fs w)
   joins [] to next i e h = absurd cc
   joins (v ∷ []) to next i e h = gives s to v next i.0 h
   joins (v ∷ u ∷ vs) to next i e h =
       settled _ (Joins vs to next) s (choose_made z.functions (store_of w) (Concat u v) s.world.store (i.1.0, i.0)) (i.1.1, h)
 
-  pub follows_names : (base : Value) (names : List Bytes) (to next : ℕ) → IsMade z.functions base → IsPlace p next → IsSafeMove chunk (follow_names base names to next f fs w)
+  pub follows_names : (base : Value) (names : List Bytes) (to next : ℕ) → IsMade z.functions base → IsPlace p next
+      → IsSafeMove chunk (follow_names base names to next f fs w)
   follows_names base [] to next i h = gives s to base next i h
   follows_names base (x ∷ xs) to next i h =
       settled _ (Follows xs to next) s (choose_made z.functions (store_of w) (Index base (Text x)) s.world.store (i, tt)) h
 
-  pub follows : (base : Value) (names : Option (List Bytes)) (xs : List Bytes) (to next : ℕ) → names ≡ Some xs → IsMade z.functions base → IsPlace p next → IsSafeMove chunk (follow base names to next f fs w)
+  pub follows : (base : Value) (names : Option (List Bytes)) (xs : List Bytes) (to next : ℕ) → names ≡ Some xs → IsMade z.functions base
+      → IsPlace p next → IsSafeMove chunk (follow base names to next f fs w)
   follows base None xs to next e i h = absurd cc
   follows base (Some names) xs to next e i h =
       record { sizes = z; world = s.world; doing = (i, active (λ p f. IsPlace p next) s h) }
 
-  pub imports : (b : Bool) (v : Option Value) (names : Option (List Bytes)) (xs : List Bytes) (to next : ℕ) → MatchOption v (Unit {0}) (IsMade z.functions) → names ≡ Some xs → IsPlace p next
+  pub imports : (b : Bool) (v : Option Value) (names : Option (List Bytes)) (xs : List Bytes) (to next : ℕ)
+      → MatchOption v (Unit {0}) (IsMade z.functions) → names ≡ Some xs → IsPlace p next
       → IsSafeMove chunk (import_of b v names to next f fs w)
   imports true (Some v) names xs to next i e h = gives s to v next i h
   imports true None names xs to next i e h = follows (Table (environment_here f w)) names xs to next e tt h
@@ -101,7 +112,8 @@ module _ {chunk : ChunkOf} {z : Sizes} {p : ProtoOf} {f : Frame} {fs : List Fram
       let g = (set_all to vs (inside f w)).frame in
       goes (with_frame (ended (to + length vs) g) t (frame_ended (to + length vs) t.frame) refl) next h
 
-  pub gives_results : (to count next : ℕ) (vs : List Value) → AreMade z.functions vs → IsPlace p next → IsSafeMove chunk (results to count next vs f fs w)
+  pub gives_results : (to count next : ℕ) (vs : List Value) → AreMade z.functions vs → IsPlace p next
+      → IsSafeMove chunk (results to count next vs f fs w)
   gives_results to zero next vs i h = delivers to next vs i h
   gives_results to (suc n) next vs i h = delivers to next (adjusted n vs) (adjusted_made z.functions n vs i) h
 
@@ -136,11 +148,13 @@ module _ {chunk : ChunkOf} {z : Sizes} {p : ProtoOf} {f : Frame} {fs : List Fram
 
   pub prepares : (b : Bounds) (a : ℕ) (by : ℤ) (next : ℕ) → LeadsOn p f.place by → IsPlace p next → IsSafeMove chunk (prepared b a by next f fs w)
   prepares (Range i l st) a by next j h =
-      begins (loops.goes_on i l st) (with_bounds a i l st (inside f w)) by next (bounds_kept s a i l st) (subst (λ q. LeadsOn p q by) (sym (bounds_place s a i l st)) j) h
+      begins (loops.goes_on i l st) (with_bounds a i l st (inside f w)) by next (bounds_kept s a i l st)
+      (subst (λ q. LeadsOn p q by) (sym (bounds_place s a i l st)) j) h
   prepares (Refused e) a by next j h = faults s e
   prepares (Halted stop) a by next j h = λ e. absurd cc
 
-  repeats : (b : Bool) (a : ℕ) (i l st : ℤ) (by : ℤ) (next : ℕ) → LeadsTo p f.place by → IsPlace p next → IsSafeMove chunk (again b a i l st by next f fs w)
+  repeats : (b : Bool) (a : ℕ) (i l st : ℤ) (by : ℤ) (next : ℕ) → LeadsTo p f.place by → IsPlace p next
+      → IsSafeMove chunk (again b a i l st by next f fs w)
   repeats true a i l st by next j h =
       goes_back (bounds_kept s a i l st) by (subst (λ q. LeadsTo p q by) (sym (bounds_place s a i l st)) j)
   repeats false a i l st by next j h = goes s next h
@@ -176,9 +190,12 @@ module _ {chunk : ChunkOf} {z : Sizes} {p : ProtoOf} {f : Frame} {fs : List Fram
   turns_with v vs a x by i j l =
       let one = set (a + 2) v (inside f w) in
       let place = set_all_place (a + 3) (adjusted x (v ∷ vs)) one ∙ set_place (a + 2) v (inside f w) in
-      goes_back (set_all_keeps (a + 3) (adjusted x (v ∷ vs)) one fs (set_keeps (a + 2) v (inside f w) fs s i) (adjusted_made z.functions x (v ∷ vs) (i, j))) by (subst (λ q. LeadsTo p q by) (sym place) l)
+      goes_back
+      (set_all_keeps (a + 3) (adjusted x (v ∷ vs)) one fs (set_keeps (a + 2) v (inside f w) fs s i) (adjusted_made z.functions x (v ∷ vs) (i, j))) by
+      (subst (λ q. LeadsTo p q by) (sym place) l)
 
-  pub turns : (vs : List Value) (a x : ℕ) (by : ℤ) (next : ℕ) → AreMade z.functions vs → LeadsTo p f.place by → IsPlace p next → IsSafeMove chunk (turned vs a x by next f fs w)
+  pub turns : (vs : List Value) (a x : ℕ) (by : ℤ) (next : ℕ) → AreMade z.functions vs → LeadsTo p f.place by → IsPlace p next
+      → IsSafeMove chunk (turned vs a x by next f fs w)
   turns [] a x by next i l h = goes s next h
   turns (Nil ∷ vs) a x by next i l h = goes s next h
   turns (v ∷ vs) a x by next i l h = turns_with v vs a x by i.0 i.1 l
@@ -202,20 +219,25 @@ module _ {chunk : ChunkOf} {z : Sizes} {p : ProtoOf} {f : Frame} {fs : List Fram
   }
   receives (Stores next) vs i h = goes s next h
   receives (Begins a by) vs i h =
-      generates a by (first vs) (first (rest vs)) (first (rest (rest vs))) (first_made z.functions vs i) (first_made z.functions (rest vs) (rest_made z.functions vs i)) (first_made z.functions (rest (rest vs)) (rest_made z.functions (rest vs) (rest_made z.functions vs i))) h
+      generates a by (first vs) (first (rest vs)) (first (rest (rest vs))) (first_made z.functions vs i)
+      (first_made z.functions (rest vs) (rest_made z.functions vs i))
+      (first_made z.functions (rest (rest vs)) (rest_made z.functions (rest vs) (rest_made z.functions vs i))) h
   receives (Turns a x by next) vs i h = turns vs a x by next i h.0 h.1
 
   -- ---- fast calls
 
-  pub finishes : (c : Option (Insn × ℕ)) (base arguments count behind : ℕ) (vs : List Value) (next : ℕ) → c ≡ Some (Call base arguments count, behind) → AreMade z.functions vs → IsPlace p behind
+  pub finishes : (c : Option (Insn × ℕ)) (base arguments count behind : ℕ) (vs : List Value) (next : ℕ) → c ≡ Some (Call base arguments count, behind)
+      → AreMade z.functions vs → IsPlace p behind
       → IsSafeMove chunk (finished c vs next f fs w)
   finishes c base arguments count behind vs next e i h =
       subst (λ c. IsSafeMove chunk (finished c vs next f fs w)) (sym e) (gives_results s base count behind vs i h)
 
-module _ {chunk : ChunkOf} {z : Sizes} {p : ProtoOf} {f : Frame} {fs : List Frame} {w : World} (s : Setting chunk z p f fs w) (c : Option (Insn × ℕ)) (base arguments count behind next : ℕ) (e : c ≡ Some (Call base arguments count, behind)) (i : IsPlace p behind) (h : IsPlace p next) where
+module _ {chunk : ChunkOf} {z : Sizes} {p : ProtoOf} {f : Frame} {fs : List Frame} {w : World} (s : Setting chunk z p f fs w) (c : Option (Insn × ℕ))
+    (base arguments count behind next : ℕ) (e : c ≡ Some (Call base arguments count, behind)) (i : IsPlace p behind) (h : IsPlace p next) where
   answers : (a : LibAnswer) → AnswerStays z.functions (store_of w) a → IsSafeMove chunk (answered a c next f fs w)
   answers (Answers vs t) m =
-      finishes (setting_kept t s (subst (λ t. Keeps z.functions (store_of w) t []) (sym m.1) (keeps_itself z.functions (store_of w) s.world.store))) c base arguments count behind vs next e m.0 i
+      finishes (setting_kept t s (subst (λ t. Keeps z.functions (store_of w) t []) (sym m.1) (keeps_itself z.functions (store_of w) s.world.store))) c
+      base arguments count behind vs next e m.0 i
   answers (PrintsLine line) m = goes s next h
   answers (ErrsWith x) m = goes s next h
   answers (RaisesValue v origin) m = goes s next h
@@ -224,7 +246,8 @@ module _ {chunk : ChunkOf} {z : Sizes} {p : ProtoOf} {f : Frame} {fs : List Fram
   answers (Moves m) n = goes s next h
   answers (OnEnvironment u) m = goes s next h
 
-  pub calls_fast : LibraryKeeps → (b : Bool) (k : ℕ) (o : Option Builtin) (vs : List Value) → under numbered k ≡ o → AreMade z.functions vs → IsSafeMove chunk (fast b o vs c next f fs w)
+  pub calls_fast : LibraryKeeps → (b : Bool) (k : ℕ) (o : Option Builtin) (vs : List Value) → under numbered k ≡ o → AreMade z.functions vs
+      → IsSafeMove chunk (fast b o vs c next f fs w)
   calls_fast library true k (Some b) vs n m = answers (lib b vs (store_of w)) (library.fast z.functions (store_of w) k b vs n s.world.store m)
   calls_fast library true k None vs n m = goes s next h
   calls_fast library false k o vs n m = goes s next h

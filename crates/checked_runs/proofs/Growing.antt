@@ -70,10 +70,13 @@ module _ (z y : Sizes) (more : AreMore z y) where
   wait_more (Asks c) i = values_more c.arguments i
   wait_more w i = tt
 
-  pub waits_more : {chunk : ChunkOf} {s : Store} {ws : Waits} {elsewhere : ℕ → List Frame} → AreWaits chunk z s ws elsewhere → AreWaits chunk y s ws elsewhere
+  pub waits_more : {chunk : ChunkOf} {s : Store} {ws : Waits} {elsewhere : ℕ → List Frame} → AreWaits chunk z s ws elsewhere
+      → AreWaits chunk y s ws elsewhere
   waits_more {chunk} {s} {ws} {elsewhere} i = record {
     enough = i.enough;
-    each = each_map (Each (IsWait z.functions)) (Each (IsWait y.functions)) (λ l. each_map (IsWait z.functions) (IsWait y.functions) wait_more l) ws i.each;
+    each =
+        each_map (Each (IsWait z.functions)) (Each (IsWait y.functions)) (λ l. each_map (IsWait z.functions) (IsWait y.functions) wait_more l) ws
+        i.each;
     stacked = λ j e. stacked_more chunk (waiting ws j) (elsewhere j) (i.stacked j e);
     dead = λ j e d. stacked_more chunk (waiting ws j) [] (i.dead j e d);
   }
@@ -93,7 +96,9 @@ module _ (z y : Sizes) (more : AreMore z y) where
   store_more s i = record {
     shared = each_map (IsTable z.functions) (IsTable y.functions) table_more s.shared i.shared;
     tables = each_map (IsTable z.functions) (IsTable y.functions) table_more s.tables i.tables;
-    coroutines = each_map (IsCoroutine z.functions (length s.coroutines)) (IsCoroutine y.functions (length s.coroutines)) (coroutine_more (length s.coroutines)) s.coroutines i.coroutines;
+    coroutines =
+        each_map (IsCoroutine z.functions (length s.coroutines)) (IsCoroutine y.functions (length s.coroutines))
+        (coroutine_more (length s.coroutines)) s.coroutines i.coroutines;
     some = i.some;
     running = i.running;
     main = i.main;

@@ -41,7 +41,8 @@ is_numbered builtin.StringLen = true
 is_numbered builtin.StringSub = true
 is_numbered _ = false
 
-under_one : (t : Bool) (c b : Builtin) (o : Option Builtin) → is_numbered c ≡ true → (o ≡ Some b → is_numbered b ≡ true) → (if t then Some c else o) ≡ Some b → is_numbered b ≡ true
+under_one : (t : Bool) (c b : Builtin) (o : Option Builtin) → is_numbered c ≡ true → (o ≡ Some b → is_numbered b ≡ true)
+    → (if t then Some c else o) ≡ Some b → is_numbered b ≡ true
 under_one true c b o i h e = let same : c ≡ b = cc in ap is_numbered (sym same) ∙ i
 under_one false c b o i h e = h e
 
@@ -128,7 +129,8 @@ module _ (n : ℕ) (s : Store) (is : IsStore n s) where
   lib_made b args m = fast_made n s is (AnswersAreMade n s) stays b args refl m
 
   goes_on_made : (b : Builtin) (c : Continue) (bs : Bytes) → AreMade n c.arguments → Holds (AnswersAreMade n s) n (goes_on b c s bs)
-  goes_on_made builtin.Print c bs m = reading.prints n s is (AnswersAreMade n s) stays c.arguments (suc c.at) _ _ m (each_drop (IsMade n) (suc c.at) c.arguments m)
+  goes_on_made builtin.Print c bs m =
+      reading.prints n s is (AnswersAreMade n s) stays c.arguments (suc c.at) _ _ m (each_drop (IsMade n) (suc c.at) c.arguments m)
   goes_on_made builtin.StringFormat c bs m = texts.format_goes_on n s is (AnswersAreMade n s) stays c bs m
   goes_on_made b c bs m = reading.gives n s is (AnswersAreMade n s) stays (Text bs) tt
 
@@ -140,5 +142,6 @@ pub library_keeps : LibraryKeeps
 library_keeps = record {
   calls = λ n s b args is m. (lib_made n s is b args m).holds;
   goes_on = λ n s c v is m j. (go_on_made n s is c v m).holds;
-  fast = λ n s k b args e is m. (fast_made n s is (λ vs t. AreMade n vs × (t ≡ s)) (λ vs m. (m, refl)) b args (under_numbered numbered k b all_numbered e) m).holds;
+  fast =
+      λ n s k b args e is m. (fast_made n s is (λ vs t. AreMade n vs × (t ≡ s)) (λ vs m. (m, refl)) b args (under_numbered numbered k b all_numbered e) m).holds;
 }

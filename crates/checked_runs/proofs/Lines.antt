@@ -14,7 +14,8 @@ AllRead : (n : ℕ) → List ℕ → Type 0
 AllRead n code = (at : ℕ) (before : List Line) (l : Line) (after : List Line) → lines_from n code at ≡ before ++ l ∷ after → IsRead code l after
 
 read_next : (n : ℕ) (code : List ℕ) → AllRead n code → (at : ℕ) (o : Option (Insn × ℕ)) → insn_at code at ≡ o
-    → (before : List Line) (l : Line) (after : List Line) → then_line at o (λ next. lines_from n code next) ≡ before ++ l ∷ after → IsRead code l after
+    → (before : List Line) (l : Line) (after : List Line) → then_line at o (λ next. lines_from n code next) ≡ before ++ l ∷ after
+    → IsRead code l after
 unfolding AllRead
 read_next n code ih at None e [] l after h = absurd cc
 read_next n code ih at None e (b ∷ before) l after h = absurd cc

@@ -28,11 +28,13 @@ use Rattle.checked_runs.proofs.Deciding.{plain_made}
 
 module _ (n : ℕ) where
   mutual
-    value_placed : (v : HostValue) (path : Bytes) (b : Built) → Each (IsTable n) b.tables → IsMade n (place_value v path b).0 × Each (IsTable n) (place_value v path b).1.tables
+    value_placed : (v : HostValue) (path : Bytes) (b : Built) → Each (IsTable n) b.tables
+        → IsMade n (place_value v path b).0 × Each (IsTable n) (place_value v path b).1.tables
     value_placed (HostPlain v) path b i = (plain_made n v, i)
     value_placed HostFunction path b i = (tt, i)
     value_placed (HostTable fs) path b i =
-        let r = fields_placed fs path empty_table (with_built b path empty_table) tt (each_append (IsTable n) b.tables (empty_table ∷ []) i (tt, tt)) in
+        let r =
+        fields_placed fs path empty_table (with_built b path empty_table) tt (each_append (IsTable n) b.tables (empty_table ∷ []) i (tt, tt)) in
         (tt, each_set (IsTable n) _ (length b.tables) _ r.1 r.0)
 
     fields_placed : (fs : HostFields) (path : Bytes) (t : TableOf) (b : Built) → IsTable n t → Each (IsTable n) b.tables
@@ -47,7 +49,9 @@ module _ (n : ℕ) where
   entries_made (f ∷ fs) = ((tt, tt), entries_made fs)
 
   library_tables : List (Value × Value)
-  library_tables = (Text (codes "math"), Table (Shared 2)) ∷ (Text (codes "string"), Table (Shared 3)) ∷ (Text (codes "table"), Table (Shared 4)) ∷ (Text (codes "coroutine"), Table (Shared 5)) ∷ []
+  library_tables =
+      (Text (codes "math"), Table (Shared 2)) ∷ (Text (codes "string"), Table (Shared 3)) ∷ (Text (codes "table"), Table (Shared 4)) ∷
+      (Text (codes "coroutine"), Table (Shared 5)) ∷ []
 
   library_tables_made : Each (IsEntry n) library_tables
   unfolding library_tables
@@ -87,7 +91,8 @@ module _ (n : ℕ) (s : Store) (is : IsStore n s) where
   global_made Nil x m = raw_made s.globals.table x
   global_made v x m = m
 
-  frozen_made : (b : Bool) (o : Option Value) → MatchOption o (Unit {0}) (IsMade n) → MatchOption (elim b as (λ b. Option Value) [ true ↦ o | false ↦ None ]) (Unit {0}) (IsMade n)
+  frozen_made : (b : Bool) (o : Option Value) → MatchOption o (Unit {0}) (IsMade n)
+      → MatchOption (elim b as (λ b. Option Value) [ true ↦ o | false ↦ None ]) (Unit {0}) (IsMade n)
   frozen_made true o m = m
   frozen_made false o m = tt
 
@@ -141,12 +146,14 @@ loaded_is_safe chunk well host replies =
       };
       doing = record {
         code = p;
-        frame = record { closure = 0; proto = chunk.main; size = size_of (proto_at chunk chunk.main); upvalues = []; varargs = []; place = 0; registers = filled 0 []; top = 0; purpose = Idle };
+        frame =
+            record { closure = 0; proto = chunk.main; size = size_of (proto_at chunk chunk.main); upvalues = []; varargs = []; place = 0; registers = filled 0 []; top = 0; purpose = Idle };
         below = [];
         functions = refl;
         rest = [];
         waits = refl;
-        is = record { code = main.1; size = ap size_of main.1; upvalues = sym main.2; cells = tt; closure = omega arith; varargs = tt; registers = λ r. tt };
+        is =
+            record { code = main.1; size = ap size_of main.1; upvalues = sym main.2; cells = tt; closure = omega arith; varargs = tt; registers = λ r. tt };
         stacked = tt;
         holds = start_place chunk chunk.main p (proto_sound chunk chunk.main p well main.1);
       };

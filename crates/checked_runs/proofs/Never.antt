@@ -18,9 +18,12 @@ use Rattle.checked_runs.proofs.Loaded.{loaded_is_safe}
 
 -- the rest of a run from a safe state is not stuck
 NeverStuck : ChunkOf → Rest EventKind Look State → Type 0
-NeverStuck chunk rest = (left spent : ℕ) (out : List (Stamped EventKind)) (notes : List Look) (s : State) (r : Report EventKind Look) → IsSafe chunk s → rest left spent out notes s ≡ Some r → r.end ≢ Stuck
+NeverStuck chunk rest =
+    (left spent : ℕ) (out : List (Stamped EventKind)) (notes : List Look) (s : State) (r : Report EventKind Look) → IsSafe chunk s → rest left spent
+    out notes s ≡ Some r → r.end ≢ Stuck
 
-after_move : (chunk : ChunkOf) (rest : Rest EventKind Look State) → NeverStuck chunk rest → (m : Step) (left spent : ℕ) (out : List (Stamped EventKind)) (notes : List Look) (r : Report EventKind Look)
+after_move : (chunk : ChunkOf) (rest : Rest EventKind Look State) → NeverStuck chunk rest
+    → (m : Step) (left spent : ℕ) (out : List (Stamped EventKind)) (notes : List Look) (r : Report EventKind Look)
     → IsSafeMove chunk m → after m rest left spent out notes ≡ Some r → r.end ≢ Stuck
 unfolding NeverStuck
 after_move chunk rest h (Goes ns s) left spent out notes r i e = h left spent out (notes ++ ns) s r i e
@@ -52,7 +55,8 @@ next_safe chunk (Shows ns v s) i t e = let same : s ≡ t = cc in subst (IsSafe 
 next_safe chunk (Charges s) i t e = let same : s ≡ t = cc in subst (IsSafe chunk) same i
 next_safe chunk (Ends ns end) i t e = absurd cc
 
-stepped : (chunk : ChunkOf) → IsWellFormed chunk → (o : Option State) → ((s : State) → o ≡ Some s → IsSafe chunk s) → (t : State) → option_and_then (λ s. state_after (step chunk s)) o ≡ Some t → IsSafe chunk t
+stepped : (chunk : ChunkOf) → IsWellFormed chunk → (o : Option State) → ((s : State) → o ≡ Some s → IsSafe chunk s) → (t : State)
+    → option_and_then (λ s. state_after (step chunk s)) o ≡ Some t → IsSafe chunk t
 stepped chunk well None h t e = absurd cc
 stepped chunk well (Some s) h t e = next_safe chunk (step chunk s) (steps_stay_safe chunk well s (h s refl)) t e
 

@@ -37,7 +37,8 @@ ranges_own size (r ∷ rs) e =
     let parts = both (fits_range size r) (list_all (fits_range size) rs) e in
     (range_own size r parts.0, ranges_own size rs parts.1)
 
-constants_there : (chunk : ChunkOf) (n : ℕ) (p : ProtoOf) → proto_at chunk n ≡ Some p → IsSound chunk n p → (ks : List (ℤ × Want)) → list_all (finds chunk n) ks ≡ true
+constants_there : (chunk : ChunkOf) (n : ℕ) (p : ProtoOf) → proto_at chunk n ≡ Some p → IsSound chunk n p → (ks : List (ℤ × Want))
+    → list_all (finds chunk n) ks ≡ true
     → Each (λ (k : ℤ × Want). IsConstant chunk n k.0 k.1) ks
 constants_there chunk n p at s [] e = tt
 constants_there chunk n p at s (k ∷ ks) e =
@@ -50,28 +51,32 @@ below_some n (Some u) e = grind (arith, nat_tests)
 
 -- ---- children
 
-some_child : (chunk : ChunkOf) (n : ℕ) (p : ProtoOf) → IsSound chunk n p → proto_at chunk n ≡ Some p → (d : ℤ) (o : Option ℕ) → child_of p d ≡ o → is_some o ≡ true → IsChild chunk p d
+some_child : (chunk : ChunkOf) (n : ℕ) (p : ProtoOf) → IsSound chunk n p → proto_at chunk n ≡ Some p → (d : ℤ) (o : Option ℕ) → child_of p d ≡ o
+    → is_some o ≡ true → IsChild chunk p d
 some_child chunk n p s at d None e i = absurd cc
 some_child chunk n p s at (pos d) (Some c) e i =
     let q = child_there chunk n p s at d c e in record { number = c; is = e; code = q.0; there = q.1 }
 some_child chunk n p s at (negsuc d) (Some c) e i = absurd cc
 
-child_of_insn : (chunk : ChunkOf) (n : ℕ) (p : ProtoOf) → IsSound chunk n p → proto_at chunk n ≡ Some p → (insn : Insn) → has_child p insn ≡ true → HasChild chunk p insn
+child_of_insn : (chunk : ChunkOf) (n : ℕ) (p : ProtoOf) → IsSound chunk n p → proto_at chunk n ≡ Some p → (insn : Insn) → has_child p insn ≡ true
+    → HasChild chunk p insn
 child_of_insn chunk n p s at (NewClosure a d) e = some_child chunk n p s at d (child_of p d) refl e
 child_of_insn chunk n p s at insn e = tt
 
 -- ---- all that an instruction names
 
-module _ (chunk : ChunkOf) (n : ℕ) (p : ProtoOf) (place : ℕ) (insn : Insn) (next : ℕ) (s : IsSound chunk n p) (at : Stands chunk n p place insn next) where
-  jump_there : (o : Option ℤ) → jump_of insn ≡ o → MatchOption o (Unit {0}) (λ by. LeadsTo p place by)
-  jump_there None e = tt
-  jump_there (Some by) e = leads chunk n p place insn next s at by e
+module _ (chunk : ChunkOf) (n : ℕ) (p : ProtoOf) (place : ℕ) (insn : Insn) (next : ℕ) (s : IsSound chunk n p) (at : Stands chunk n p place insn next)
+  where
+    jump_there : (o : Option ℤ) → jump_of insn ≡ o → MatchOption o (Unit {0}) (λ by. LeadsTo p place by)
+    jump_there None e = tt
+    jump_there (Some by) e = leads chunk n p place insn next s at by e
 
-  jump_ahead : (o : Option ℤ) → jump_of insn ≡ o → goes_back insn ≡ false → MatchOption o (Unit {0}) (λ by. LeadsOn p place by)
-  jump_ahead None e f = tt
-  jump_ahead (Some by) e f = leads_on chunk n p place insn next s at by e f
+    jump_ahead : (o : Option ℤ) → jump_of insn ≡ o → goes_back insn ≡ false → MatchOption o (Unit {0}) (λ by. LeadsOn p place by)
+    jump_ahead None e f = tt
+    jump_ahead (Some by) e f = leads_on chunk n p place insn next s at by e f
 
-pub operands_at : (chunk : ChunkOf) → IsWellFormed chunk → (z : Sizes) (p : ProtoOf) (f : Frame) → IsFrame chunk z p f → IsPlace p f.place → HasOperands chunk f
+pub operands_at : (chunk : ChunkOf) → IsWellFormed chunk → (z : Sizes) (p : ProtoOf) (f : Frame) → IsFrame chunk z p f → IsPlace p f.place
+    → HasOperands chunk f
 operands_at chunk well z p f i place =
     let n = f.proto in
     let s = proto_sound chunk n p well i.code in
@@ -89,7 +94,9 @@ operands_at chunk well z p f i place =
       own = registers.1;
       registers = subst (λ size. Each (AreOwn size) (registers_of insn)) (sym i.size) (ranges_own p.registers (registers_of insn) registers.0);
       constants = constants_there chunk n p i.code s (constants_of insn) at.rules.constants;
-      upvalue = subst (λ k. MatchOption (upvalue_of insn) (Unit {0}) (λ u. u < k)) (sym i.upvalues) (below_some p.upvalues (upvalue_of insn) at.rules.upvalue);
+      upvalue =
+          subst (λ k. MatchOption (upvalue_of insn) (Unit {0}) (λ u. u < k)) (sym i.upvalues)
+          (below_some p.upvalues (upvalue_of insn) at.rules.upvalue);
       child = child_of_insn chunk n p s i.code insn at.rules.child;
       jump = jump_there chunk n p f.place insn place.line.next s at (jump_of insn) refl;
       jump_on = jump_ahead chunk n p f.place insn place.line.next s at (jump_of insn) refl;
@@ -97,11 +104,13 @@ operands_at chunk well z p f i place =
     }
 
 -- the function that runs
-pub running_operands : (chunk : ChunkOf) → IsWellFormed chunk → (z : Sizes) (ws : List Wait) (f : Frame) (fs : List Frame) → IsActive chunk z (λ p f. IsPlace p f.place) ws (f ∷ fs) → HasOperands chunk f
+pub running_operands : (chunk : ChunkOf) → IsWellFormed chunk → (z : Sizes) (ws : List Wait) (f : Frame) (fs : List Frame)
+    → IsActive chunk z (λ p f. IsPlace p f.place) ws (f ∷ fs) → HasOperands chunk f
 running_operands chunk well z ws f fs a =
     let same : a.frame ≡ f = let e = a.functions in cc in subst (HasOperands chunk) same (operands_at chunk well z a.code a.frame a.is a.holds)
 
 pub operands_are_there : OperandsAreThere
 operands_are_there chunk well s i focus f fs functions =
     let ws = waiting s.world.waits (here (store_of s.world)) in
-    running_operands chunk well i.sizes ws f fs (subst (λ fs. AreDoing chunk i.sizes Run ws fs) functions (subst (λ (x : Focus). AreDoing chunk i.sizes x ws s.functions) focus i.doing))
+    running_operands chunk well i.sizes ws f fs
+    (subst (λ fs. AreDoing chunk i.sizes Run ws fs) functions (subst (λ (x : Focus). AreDoing chunk i.sizes x ws s.functions) focus i.doing))

@@ -40,7 +40,8 @@ module _ {chunk : ChunkOf} {z : Sizes} where
         imports = i.imports;
       }
 
-  pub setting_kept : {p : ProtoOf} {f : Frame} {fs : List Frame} {w : World} → (t : Store) → Setting chunk z p f fs w → Keeps z.functions (store_of w) t [] → Setting chunk z p f fs (with_store t w)
+  pub setting_kept : {p : ProtoOf} {f : Frame} {fs : List Frame} {w : World} → (t : Store) → Setting chunk z p f fs w
+      → Keeps z.functions (store_of w) t [] → Setting chunk z p f fs (with_store t w)
   setting_kept {p} {f} {fs} {w} t s k = record {
     world = store_kept t s.world k;
     frame = s.frame;
@@ -49,12 +50,15 @@ module _ {chunk : ChunkOf} {z : Sizes} where
     stacked = s.stacked;
   }
 
-  pub waiting_frame : {p : ProtoOf} {f : Frame} {fs : List Frame} {w : World} → Setting chunk z p f fs w → (q : Purpose) → Awaits p z.functions f.place q
+  pub waiting_frame : {p : ProtoOf} {f : Frame} {fs : List Frame} {w : World} → Setting chunk z p f fs w → (q : Purpose)
+      → Awaits p z.functions f.place q
       → AreStacked chunk z (waiting w.waits (here (store_of w))) (saved q f ∷ fs)
   waiting_frame {p} {f} {fs} {w} s q h =
-      subst (λ ws. AreStacked chunk z ws (saved q f ∷ fs)) (sym s.waits) (refl, record { code = p; frame = frame_at f.place q (frame_ended 0 s.frame); awaits = h }, s.stacked)
+      subst (λ ws. AreStacked chunk z ws (saved q f ∷ fs)) (sym s.waits)
+      (refl, record { code = p; frame = frame_at f.place q (frame_ended 0 s.frame); awaits = h }, s.stacked)
 
-  came : {p : ProtoOf} {f : Frame} {fs : List Frame} {w : World} → (o : Outcome) (ns : List Look) (q : Purpose) → Setting chunk z p f fs w → OutcomeIsMade z.functions o → Awaits p z.functions f.place q
+  came : {p : ProtoOf} {f : Frame} {fs : List Frame} {w : World} → (o : Outcome) (ns : List Look) (q : Purpose) → Setting chunk z p f fs w
+      → OutcomeIsMade z.functions o → Awaits p z.functions f.place q
       → IsSafeMove chunk (comes o ns q f fs w)
   came {p} {f} {fs} {w} (Done v) ns q s m h = record {
     sizes = z;
@@ -66,6 +70,7 @@ module _ {chunk : ChunkOf} {z : Sizes} where
       faults (with_frame (waits_for q f) s (frame_at f.place q s.frame) refl) e
   came {p} {f} {fs} {w} (Halts stop) ns q s m h = λ e. absurd cc
 
-  pub settled : {p : ProtoOf} {f : Frame} {fs : List Frame} {w : World} → (c : Choice) (q : Purpose) → Setting chunk z p f fs w → ChoiceIsMade z.functions (store_of w) c → Awaits p z.functions f.place q
+  pub settled : {p : ProtoOf} {f : Frame} {fs : List Frame} {w : World} → (c : Choice) (q : Purpose) → Setting chunk z p f fs w
+      → ChoiceIsMade z.functions (store_of w) c → Awaits p z.functions f.place q
       → IsSafeMove chunk (settle c q f fs w)
   settled c q s m h = came c.outcome (replicate c.asked asked) q (setting_kept c.store s m.kept) m.outcome h

@@ -160,24 +160,27 @@ stands_line chunk n p s before l after split runs = record {
   runs = runs;
 }
 
-pub stands_at : (chunk : ChunkOf) (n : ℕ) (p : ProtoOf) (place : ℕ) → IsSound chunk n p → (i : IsPlace p place) → Stands chunk n p place i.line.insn i.line.next
+pub stands_at : (chunk : ChunkOf) (n : ℕ) (p : ProtoOf) (place : ℕ) → IsSound chunk n p → (i : IsPlace p place)
+    → Stands chunk n p place i.line.insn i.line.next
 stands_at chunk n p place s i =
     subst (λ at. Stands chunk n p at i.line.insn i.line.next) i.there (stands_line chunk n p s i.before i.line i.after i.split i.runs)
 
-module _ (chunk : ChunkOf) (n : ℕ) (p : ProtoOf) (place : ℕ) (insn : Insn) (next : ℕ) (s : IsSound chunk n p) (at : Stands chunk n p place insn next) where
-  -- the code goes on behind it
-  pub goes_on : is_end insn ≡ false → is_closure_or_capture insn ≡ false → IsPlace p next
-  goes_on goes plain = next_place chunk n p s at.before (record { place = place; insn = insn; next = next }) at.after at.split goes plain
+module _ (chunk : ChunkOf) (n : ℕ) (p : ProtoOf) (place : ℕ) (insn : Insn) (next : ℕ) (s : IsSound chunk n p) (at : Stands chunk n p place insn next)
+  where
+    -- the code goes on behind it
+    pub goes_on : is_end insn ≡ false → is_closure_or_capture insn ≡ false → IsPlace p next
+    goes_on goes plain = next_place chunk n p s at.before (record { place = place; insn = insn; next = next }) at.after at.split goes plain
 
-  pub leads : (by : ℤ) → jump_of insn ≡ Some by → LeadsTo p place by
-  leads by is = leads_to p place by (sym (ap (may_land p.vararg (landings false false (lines p.code)) place) is) ∙ at.rules.lands)
+    pub leads : (by : ℤ) → jump_of insn ≡ Some by → LeadsTo p place by
+    leads by is = leads_to p place by (sym (ap (may_land p.vararg (landings false false (lines p.code)) place) is) ∙ at.rules.lands)
 
-  pub leads_on : (by : ℤ) → jump_of insn ≡ Some by → goes_back insn ≡ false → LeadsOn p place by
-  leads_on by is ahead =
-      let turns = (both (turns_well place insn (jump_of insn)) _ at.rules.turns).0 in
-      let same : same_truth (goes_back insn) (int_le (target place by) (pos place)) ≡ true = sym (ap (turns_well place insn) is) ∙ turns in
-      on_words p place by (leads by is) (negated (int_le (target place by) (pos place)) (sym (ap (λ b. same_truth b (int_le (target place by) (pos place))) ahead) ∙ same))
-    where
-      negated : (b : Bool) → not b ≡ true → b ≡ false
-      negated true e = absurd cc
-      negated false e = refl
+    pub leads_on : (by : ℤ) → jump_of insn ≡ Some by → goes_back insn ≡ false → LeadsOn p place by
+    leads_on by is ahead =
+        let turns = (both (turns_well place insn (jump_of insn)) _ at.rules.turns).0 in
+        let same : same_truth (goes_back insn) (int_le (target place by) (pos place)) ≡ true = sym (ap (turns_well place insn) is) ∙ turns in
+        on_words p place by (leads by is)
+        (negated (int_le (target place by) (pos place)) (sym (ap (λ b. same_truth b (int_le (target place by) (pos place))) ahead) ∙ same))
+      where
+        negated : (b : Bool) → not b ≡ true → b ≡ false
+        negated true e = absurd cc
+        negated false e = refl

@@ -29,15 +29,18 @@ IsNext : ℕ → Option (Option (Value × Value)) → Type 0
 IsNext n o = MatchOption o (Unit {0}) (λ e. MatchOption e (Unit {0}) (IsEntry n))
 
 module _ (n : ℕ) where
-  found_one : (b : Bool) (o q : Option (Value × Value)) → MatchOption o (Unit {0}) (IsEntry n) → MatchOption q (Unit {0}) (IsEntry n) → MatchOption (cond b o q) (Unit {0}) (IsEntry n)
+  found_one : (b : Bool) (o q : Option (Value × Value)) → MatchOption o (Unit {0}) (IsEntry n) → MatchOption q (Unit {0}) (IsEntry n)
+      → MatchOption (cond b o q) (Unit {0}) (IsEntry n)
   found_one true o q i j = i
   found_one false o q i j = j
 
-  first_found : (is_nil : Value → Bool) (same : Value → Value → Bool) (es : List (Value × Value)) → Each (IsEntry n) es → MatchOption (pairs.first_entry same is_nil Nil es) (Unit {0}) (IsEntry n)
+  first_found : (is_nil : Value → Bool) (same : Value → Value → Bool) (es : List (Value × Value)) → Each (IsEntry n) es
+      → MatchOption (pairs.first_entry same is_nil Nil es) (Unit {0}) (IsEntry n)
   first_found is_nil same [] i = tt
   first_found is_nil same (e ∷ es) i = found_one (is_nil e.1) _ (Some e) (first_found is_nil same es i.1) i.0
 
-  next_one : (b : Bool) (o q : Option (Option (Value × Value))) → MatchOption o (Unit {0}) (λ e. MatchOption e (Unit {0}) (IsEntry n)) → MatchOption q (Unit {0}) (λ e. MatchOption e (Unit {0}) (IsEntry n))
+  next_one : (b : Bool) (o q : Option (Option (Value × Value))) → MatchOption o (Unit {0}) (λ e. MatchOption e (Unit {0}) (IsEntry n))
+      → MatchOption q (Unit {0}) (λ e. MatchOption e (Unit {0}) (IsEntry n))
       → MatchOption (cond b o q) (Unit {0}) (λ e. MatchOption e (Unit {0}) (IsEntry n))
   next_one true o q i j = i
   next_one false o q i j = j
@@ -47,9 +50,12 @@ module _ (n : ℕ) where
   after_found is_nil same [] key i = tt
   after_found is_nil same (e ∷ es) key i = next_one (same key e.0) (Some _) _ (first_found is_nil same es i.1) (after_found is_nil same es key i.1)
 
-  next_found : (t : TableOf) (key : Value) → IsTable n t → MatchOption (tables.next_entry t key) (Unit {0}) (λ e. MatchOption e (Unit {0}) (IsEntry n))
+  next_found : (t : TableOf) (key : Value) → IsTable n t
+      → MatchOption (tables.next_entry t key) (Unit {0}) (λ e. MatchOption e (Unit {0}) (IsEntry n))
   unfolding tables.next_entry
-  next_found t key i = next_one (tables.is_nil key) (Some _) _ (first_found tables.is_nil tables.same t.entries i) (after_found tables.is_nil tables.same t.entries key i)
+  next_found t key i =
+      next_one (tables.is_nil key) (Some _) _ (first_found tables.is_nil tables.same t.entries i)
+      (after_found tables.is_nil tables.same t.entries key i)
 
   pub items_made : (t : TableOf) (k : ℤ) (count : ℕ) → IsTable n t → AreMade n (table.items t k count)
   items_made t k zero i = tt
@@ -68,12 +74,14 @@ module _ (n : ℕ) (s : Store) (is : IsStore n s) (P : List Value → Store → 
 
   -- ---- texts
 
-  asks_by : (v : Value) (asking : Continue) (go : Bytes → LibAnswer) (h : Value) → IsMade n v → IsMade n h → AreMade n asking.arguments → ((bs : Bytes) → Holds P n (go bs))
+  asks_by : (v : Value) (asking : Continue) (go : Bytes → LibAnswer) (h : Value) → IsMade n v → IsMade n h → AreMade n asking.arguments
+      → ((bs : Bytes) → Holds P n (go bs))
       → Holds P n (core.text_of_value s v asking go h)
   asks_by v asking go Nil i j m k = k _
   asks_by v asking go h i j m k = record { holds = (j, (i, tt), m) }
 
-  pub asks_text : (v : Value) (asking : Continue) (go : Bytes → LibAnswer) → IsMade n v → AreMade n asking.arguments → ((bs : Bytes) → Holds P n (go bs))
+  pub asks_text : (v : Value) (asking : Continue) (go : Bytes → LibAnswer) → IsMade n v → AreMade n asking.arguments
+      → ((bs : Bytes) → Holds P n (go bs))
       → Holds P n (core.asks_text s v asking go)
   asks_text v asking go i m k = asks_by v asking go (metamethod s v (codes "__tostring")) i (metamethod_made n s v (codes "__tostring") is) m k
 
@@ -110,7 +118,8 @@ module _ (n : ℕ) (s : Store) (is : IsStore n s) (P : List Value → Store → 
 
   based : (v : Value) (radix : ℤ) → Holds P n (core.to_number_based s v radix)
   based v radix =
-      one_of (int_le (pos 2) radix && int_le radix (pos 36)) (core.to_number_in s (unsigned_abs radix) v) (arguments.out_of_range builtin.Tonumber 1) (to_number_in (unsigned_abs radix) v) (record { holds = tt })
+      one_of (int_le (pos 2) radix && int_le radix (pos 36)) (core.to_number_in s (unsigned_abs radix) v) (arguments.out_of_range builtin.Tonumber 1)
+      (to_number_in (unsigned_abs radix) v) (record { holds = tt })
 
   to_number_by : (v base : Value) → Holds P n (core.to_number_by s v base)
   to_number_by v Nil = to_number v
@@ -125,7 +134,8 @@ module _ (n : ℕ) (s : Store) (is : IsStore n s) (P : List Value → Store → 
   failed None m = record { holds = tt }
   failed (Some v) m = record { holds = m }
 
-  asserts : (b : Bool) (args : List Value) → AreMade n args → Holds P n (elim b [ true ↦ Answers args s | false ↦ core.failed_assertion (slice_get args 1) ])
+  asserts : (b : Bool) (args : List Value) → AreMade n args
+      → Holds P n (elim b [ true ↦ Answers args s | false ↦ core.failed_assertion (slice_get args 1) ])
   asserts true args m = gives_all args m
   asserts false args m = failed (slice_get args 1) (given.argument_made n args 1 m)
 
@@ -139,7 +149,9 @@ module _ (n : ℕ) (s : Store) (is : IsStore n s) (P : List Value → Store → 
   pcall_row args m = given.any n P builtin.Pcall 0 args _ m (λ f i. record { holds = (i, each_drop (IsMade n) 1 args m, tt) })
 
   pub xpcall_row : (args : List Value) → AreMade n args → Holds P n (core.xpcall_row args s)
-  xpcall_row args m = given.any n P builtin.Xpcall 0 args _ m (λ f i. given.function n P builtin.Xpcall 1 args _ m (λ h j. record { holds = (i, each_drop (IsMade n) 2 args m, j) }))
+  xpcall_row args m =
+      given.any n P builtin.Xpcall 0 args _ m
+      (λ f i. given.function n P builtin.Xpcall 1 args _ m (λ h j. record { holds = (i, each_drop (IsMade n) 2 args m, j) }))
 
   -- ---- `select`, walks and raw access
 
@@ -159,7 +171,8 @@ module _ (n : ℕ) (s : Store) (is : IsStore n s) (P : List Value → Store → 
   pub select_row : (args : List Value) → AreMade n args → Holds P n (core.select_row args s)
   select_row args m = selects args _ m
 
-  next_answer : (o : Option (Option (Value × Value))) → MatchOption o (Unit {0}) (λ e. MatchOption e (Unit {0}) (IsEntry n)) → Holds P n (core.next_answer s o)
+  next_answer : (o : Option (Option (Value × Value))) → MatchOption o (Unit {0}) (λ e. MatchOption e (Unit {0}) (IsEntry n))
+      → Holds P n (core.next_answer s o)
   next_answer None m = record { holds = tt }
   next_answer (Some None) m = gives Nil tt
   next_answer (Some (Some e)) m = gives_all (e.0 ∷ e.1 ∷ []) (m.0, (m.1, tt))
@@ -179,10 +192,13 @@ module _ (n : ℕ) (s : Store) (is : IsStore n s) (P : List Value → Store → 
 
   pub ipairs_iterator_row : (args : List Value) → AreMade n args → Holds P n (core.ipairs_iterator_row args s)
   ipairs_iterator_row args m =
-      given.table n P builtin.IpairsIterator 0 args _ m (λ t. given.number n P builtin.IpairsIterator 1 args _ m (λ k. item_answer _ _ (get_made n (table_at s t) _ (table_made n s t is))))
+      given.table n P builtin.IpairsIterator 0 args _ m
+      (λ t. given.number n P builtin.IpairsIterator 1 args _ m (λ k. item_answer _ _ (get_made n (table_at s t) _ (table_made n s t is))))
 
   pub rawget_row : (args : List Value) → AreMade n args → Holds P n (core.rawget_row args s)
-  rawget_row args m = given.table n P builtin.Rawget 0 args _ m (λ t. given.any n P builtin.Rawget 1 args _ m (λ k i. gives _ (get_made n (table_at s t) k (table_made n s t is))))
+  rawget_row args m =
+      given.table n P builtin.Rawget 0 args _ m
+      (λ t. given.any n P builtin.Rawget 1 args _ m (λ k i. gives _ (get_made n (table_at s t) k (table_made n s t is))))
 
   pub rawequal_row : (args : List Value) → AreMade n args → Holds P n (core.rawequal_row args s)
   rawequal_row args m = given.any n P builtin.Rawequal 0 args _ m (λ a i. given.any n P builtin.Rawequal 1 args _ m (λ b j. gives _ tt))
@@ -214,7 +230,8 @@ module _ (n : ℕ) (s : Store) (is : IsStore n s) (P : List Value → Store → 
   of_level (pos (suc (suc k))) = record { holds = tt }
   of_level (negsuc k) = record { holds = tt }
 
-  reads_by : (b : Bool) (v : Value) (w : _) → Holds P n (elim b [ true ↦ OnEnvironment (Reads OfScript) | false ↦ arguments.invalid builtin.Getfenv 0 w v ])
+  reads_by : (b : Bool) (v : Value) (w : _)
+      → Holds P n (elim b [ true ↦ OnEnvironment (Reads OfScript) | false ↦ arguments.invalid builtin.Getfenv 0 w v ])
   reads_by true v w = record { holds = tt }
   reads_by false v w = record { holds = tt }
 
@@ -235,7 +252,8 @@ module _ (n : ℕ) (s : Store) (is : IsStore n s) (P : List Value → Store → 
   replaces (Closure f) t m = record { holds = m }
   replaces v t m = record { holds = tt }
 
-  levels_by : (b : Bool) (v : Value) (a : LibAnswer) (w : _) → Holds P n a → Holds P n (elim b [ true ↦ a | false ↦ arguments.invalid builtin.Setfenv 0 w v ])
+  levels_by : (b : Bool) (v : Value) (a : LibAnswer) (w : _) → Holds P n a
+      → Holds P n (elim b [ true ↦ a | false ↦ arguments.invalid builtin.Setfenv 0 w v ])
   levels_by true v a w i = i
   levels_by false v a w i = record { holds = tt }
 
@@ -245,4 +263,5 @@ module _ (n : ℕ) (s : Store) (is : IsStore n s) (P : List Value → Store → 
 
   pub setfenv_row : (args : List Value) → AreMade n args → Holds P n (core.setfenv_row args s)
   setfenv_row args m =
-      given.wanted n P builtin.Setfenv 0 _ (slice_get args 0) _ (given.argument_made n args 0 m) (λ f i. levels f _ (given.table n P builtin.Setfenv 1 args _ m (λ t. replaces f t i)))
+      given.wanted n P builtin.Setfenv 0 _ (slice_get args 0) _ (given.argument_made n args 0 m)
+      (λ f i. levels f _ (given.table n P builtin.Setfenv 1 args _ m (λ t. replaces f t i)))

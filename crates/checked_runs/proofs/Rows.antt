@@ -34,7 +34,8 @@ use Rattle.checked_runs.proofs.Waits.{hands_back}
 use Rattle.checked_runs.proofs.Constants.{constant_found, IsKnown, value_known, number_known, name_known, path_known}
 use Rattle.checked_runs.proofs.Children.{closes_over, call_found}
 
-closed_made : (z : Sizes) (cells : List Value) (g : Register) (b : Bool) → IsRegister z g → IsMade z.functions (held cells g) → IsRegister z (if b then g else Val (held cells g))
+closed_made : (z : Sizes) (cells : List Value) (g : Register) (b : Bool) → IsRegister z g → IsMade z.functions (held cells g)
+    → IsRegister z (if b then g else Val (held cells g))
 closed_made z cells g true i j = i
 closed_made z cells g false i j = j
 
@@ -42,7 +43,8 @@ some_values : (vs us : List Value) → is_some_value us ≡ true → is_some_val
 some_values [] us e = e
 some_values (v ∷ vs) us e = some_values vs (v ∷ us) refl
 
-module _ {chunk : ChunkOf} {z : Sizes} {p : ProtoOf} {f : Frame} {fs : List Frame} {w : World} (s : Setting chunk z p f fs w) (sound : IsSound chunk f.proto p) (library : LibraryKeeps) where
+module _ {chunk : ChunkOf} {z : Sizes} {p : ProtoOf} {f : Frame} {fs : List Frame} {w : World} (s : Setting chunk z p f fs w)
+    (sound : IsSound chunk f.proto p) (library : LibraryKeeps) where
   abbrev At : Insn → ℕ → Type 0
   At insn next = Stands chunk f.proto p f.place insn next
 
@@ -54,7 +56,8 @@ module _ {chunk : ChunkOf} {z : Sizes} {p : ProtoOf} {f : Frame} {fs : List Fram
 
   -- ---- constants
 
-  valued : (k : ℤ) (row : Value → Row) → finds chunk f.proto (k, AValue) ≡ true → ((v : Value) → IsMade z.functions v → IsSafeMove chunk (row v f fs w))
+  valued : (k : ℤ) (row : Value → Row) → finds chunk f.proto (k, AValue) ≡ true
+      → ((v : Value) → IsMade z.functions v → IsSafeMove chunk (row v f fs w))
       → IsSafeMove chunk (with_constant (known chunk f.proto k) row f fs w)
   valued k row e go =
       let i = value_known chunk f.proto k (constant_found chunk f.proto p s.frame.code sound k AValue e) in
@@ -83,12 +86,16 @@ module _ {chunk : ChunkOf} {z : Sizes} {p : ProtoOf} {f : Frame} {fs : List Fram
 
   -- ---- fast calls
 
-  fast_one : (insn : Insn) (next b over : ℕ) (vs : List Value) → IsPlace p next → (at : At insn next) → calls_well f.place at.after insn ≡ (is_builtin b && is_move_and_call over f.place at.after) → AreMade z.functions vs
+  fast_one : (insn : Insn) (next b over : ℕ) (vs : List Value) → IsPlace p next → (at : At insn next)
+      → calls_well f.place at.after insn ≡ (is_builtin b && is_move_and_call over f.place at.after) → AreMade z.functions vs
       → IsSafeMove chunk (fast (is_safe f w) (under numbered b) vs (call_over p.code f over) next f fs w)
   fast_one insn next b over vs h at e m =
       let pairs = three (captures_well chunk p at.after insn) _ (calls_well f.place at.after insn) at.rules.pairs in
-      let c = call_found chunk f.proto p sound at.before (record { place = f.place; insn = insn; next = next }) at.after at.split over (both (is_builtin b) _ (sym e ∙ pairs.2)).1 in
-      calls_fast s (call_over p.code f over) c.base c.arguments c.count c.behind next c.is c.goes h library (is_safe f w) b (under numbered b) vs refl m
+      let c =
+      call_found chunk f.proto p sound at.before (record { place = f.place; insn = insn; next = next }) at.after at.split over
+      (both (is_builtin b) _ (sym e ∙ pairs.2)).1 in
+      calls_fast s (call_over p.code f over) c.base c.arguments c.count c.behind next c.is c.goes h library (is_safe f w) b (under numbered b) vs refl
+      m
 
   arguments_made : (c : Option (Insn × ℕ)) → AreMade z.functions (arguments_of c f w)
   arguments_made None = tt
@@ -100,25 +107,32 @@ module _ {chunk : ChunkOf} {z : Sizes} {p : ProtoOf} {f : Frame} {fs : List Fram
   closes : (from next : ℕ) → IsPlace p next → IsSafeMove chunk (go next (record f { registers = closed w.objects.cells f.registers from }) fs w)
   closes from next h =
       let regs = closed w.objects.cells f.registers from in
-      let are = λ (r : ℕ). closed_made z w.objects.cells (f.registers r) (nat_lt r from) (s.frame.registers r) (held_made s.world (f.registers r) (s.frame.registers r)) in
+      let are =
+      λ (r : ℕ). closed_made z w.objects.cells (f.registers r) (nat_lt r from) (s.frame.registers r) (held_made s.world (f.registers r) (s.frame.registers r)) in
       goes (with_frame (record f { registers = regs }) s (with_registers regs f.top are s.frame) refl) next h
 
-  sets_upvalue : (from u next : ℕ) → IsPlace p next → IsSafeMove chunk (go next f fs (with_cells (slice_set w.objects.cells (cell_up f u) (value_in f w from)) w))
+  sets_upvalue : (from u next : ℕ) → IsPlace p next
+      → IsSafeMove chunk (go next f fs (with_cells (slice_set w.objects.cells (cell_up f u) (value_in f w from)) w))
   sets_upvalue from u next h =
       let cells = set w.objects.cells (cell_up f u) (value_in f w from) in
-      let world = with_values cells s.world (length-set w.objects.cells (cell_up f u) (value_in f w from) ∙ s.world.cells) (each_set (IsMade z.functions) w.objects.cells (cell_up f u) (value_in f w from) s.world.values (here_made from)) in
+      let world =
+      with_values cells s.world (length-set w.objects.cells (cell_up f u) (value_in f w from) ∙ s.world.cells)
+      (each_set (IsMade z.functions) w.objects.cells (cell_up f u) (value_in f w from) s.world.values (here_made from)) in
       goes (record { world = world; frame = s.frame; below = s.below; waits = s.waits; stacked = s.stacked }) next h
 
   calls_name : (to object next : ℕ) (x : Bytes) → IsPlace p next
       → IsSafeMove chunk (on (index (value_in f w object) (Text x) to next) (states.set (to + 1) (value_in f w object) (inside f w)) fs)
   calls_name to object next x h =
-      indexes (set_keeps (to + 1) (value_in f w object) (inside f w) fs s (here_made object)) (value_in f w object) (Text x) to next (here_made object) tt h
+      indexes (set_keeps (to + 1) (value_in f w object) (inside f w) fs s (here_made object)) (value_in f w object) (Text x) to next
+      (here_made object) tt h
 
   charges : (insn : Insn) (next : ℕ) → At insn next → is_loop insn ≡ true → IsSafe chunk (state Charged f fs w)
   charges insn next at l = record {
     sizes = z;
     world = s.world;
-    doing = active (λ p f. IsLoop p f.place) s (record { stands = record { before = at.before; line = record { place = f.place; insn = insn; next = next }; after = at.after; split = at.split; there = refl; runs = at.runs }; loop = l });
+    doing =
+        active (λ p f. IsLoop p f.place) s (record
+        { stands = record { before = at.before; line = record { place = f.place; insn = insn; next = next }; after = at.after; split = at.split; there = refl; runs = at.runs }; loop = l });
   }
 
   -- ---- the rows
@@ -132,15 +146,19 @@ module _ {chunk : ChunkOf} {z : Sizes} {p : ProtoOf} {f : Frame} {fs : List Fram
   leading_to : {insn : Insn} {next : ℕ} → At insn next → (by : ℤ) → jump_of insn ≡ Some by → LeadsTo p f.place by
   leading_to {insn} {next} at by a = leads chunk f.proto p f.place insn next sound at by a
 
-  operands_made : (a b next : ℕ) → nat_lt a b ≡ true → IsPlace p next → (to : ℕ) → IsSafe chunk (state (Join (reverse (values_in f w a (b + 1 - a))) to next) f fs w)
+  operands_made : (a b next : ℕ) → nat_lt a b ≡ true → IsPlace p next → (to : ℕ)
+      → IsSafe chunk (state (Join (reverse (values_in f w a (b + 1 - a))) to next) f fs w)
   operands_made a b next l h to =
       let below : a < b = grind (arith, nat_tests) in
       let count : b + 1 - a ≡ suc (b - a) = omega arith in
-      let some : is_some_value (reverse (values_in f w a (b + 1 - a))) ≡ true = subst (λ k. is_some_value (reverse (values_in f w a k)) ≡ true) (sym count) (some_values (values_in f w (suc a) (b - a)) (value_in f w a ∷ []) refl) in
+      let some : is_some_value (reverse (values_in f w a (b + 1 - a))) ≡ true =
+      subst (λ k. is_some_value (reverse (values_in f w a k)) ≡ true) (sym count)
+      (some_values (values_in f w (suc a) (b - a)) (value_in f w a ∷ []) refl) in
       record {
         sizes = z;
         world = s.world;
-        doing = (each_reverse (IsMade z.functions) (values_in f w a (b + 1 - a)) (values_made s a (b + 1 - a)), some, active (λ p f. IsPlace p next) s h);
+        doing =
+            (each_reverse (IsMade z.functions) (values_in f w a (b + 1 - a)) (values_made s a (b + 1 - a)), some, active (λ p f. IsPlace p next) s h);
       }
 
   no_operation : (n : ℤ) (next : ℕ) → At (Nop n) next → Safe (Nop n) next
@@ -161,14 +179,17 @@ module _ {chunk : ChunkOf} {z : Sizes} {p : ProtoOf} {f : Frame} {fs : List Fram
 
   loads_import : (to : ℕ) (k : ℤ) (word next : ℕ) → At (GetImport to k word) next → Safe (GetImport to k word) next
   loads_import to k word next at =
-      let i = path_known chunk f.proto word k (constant_found chunk f.proto p s.frame.code sound k (AnImport word) (only (k, AnImport word) at refl)) in
+      let i =
+      path_known chunk f.proto word k (constant_found chunk f.proto p s.frame.code sound k (AnImport word) (only (k, AnImport word) at refl)) in
       imports s (is_safe f w) (import_at f w k) (path_of chunk f.proto word) i.names to next (import_made k) i.is (behind at refl refl)
 
-  jumps_by : (b : Bool) (by : ℤ) (next : ℕ) (insn : Insn) → At insn next → jump_of insn ≡ Some by → goes_back insn ≡ false → is_end insn ≡ false → is_closure_or_capture insn ≡ false
+  jumps_by : (b : Bool) (by : ℤ) (next : ℕ) (insn : Insn) → At insn next → jump_of insn ≡ Some by → goes_back insn ≡ false → is_end insn ≡ false
+      → is_closure_or_capture insn ≡ false
       → IsSafeMove chunk (branch b by next f fs w)
   jumps_by b by next insn at a d e g = branches s b by next (ahead at by a d) (behind at e g)
 
-  compares_by : (o : CompareOp) (a b : ℕ) (taken : Bool) (by : ℤ) (next : ℕ) (insn : Insn) → At insn next → jump_of insn ≡ Some by → goes_back insn ≡ false → is_end insn ≡ false
+  compares_by : (o : CompareOp) (a b : ℕ) (taken : Bool) (by : ℤ) (next : ℕ) (insn : Insn) → At insn next → jump_of insn ≡ Some by
+      → goes_back insn ≡ false → is_end insn ≡ false
       → is_closure_or_capture insn ≡ false → IsSafeMove chunk (compare o (value_in f w a) (value_in f w b) taken by next f fs w)
   compares_by o a b taken by next insn at c d e g =
       compares s o (value_in f w a) (value_in f w b) taken by next (here_made a) (here_made b) (ahead at by c d) (behind at e g)
@@ -177,11 +198,13 @@ module _ {chunk : ChunkOf} {z : Sizes} {p : ProtoOf} {f : Frame} {fs : List Fram
       → IsSafeMove chunk (calculate o (value_in f w a) (value_in f w b) to next f fs w)
   calculates_by o to a b next insn at e g = calculates s o (value_in f w a) (value_in f w b) to next (here_made a) (here_made b) (behind at e g)
 
-  jumps_equal : (k : ℕ) (x from : ℕ) (by : ℤ) (next : ℕ) (insn : Insn) → At insn next → IsKnown chunk f.proto (pos k) → jump_of insn ≡ Some by → goes_back insn ≡ false
+  jumps_equal : (k : ℕ) (x from : ℕ) (by : ℤ) (next : ℕ) (insn : Insn) → At insn next → IsKnown chunk f.proto (pos k) → jump_of insn ≡ Some by
+      → goes_back insn ≡ false
       → is_end insn ≡ false → is_closure_or_capture insn ≡ false
       → IsSafeMove chunk (with_constant (known chunk f.proto (pos k)) (λ v. jumps_with x (value_in f w from) v by next) f fs w)
   jumps_equal k x from by next insn at i c d e g =
-      subst (λ o. IsSafeMove chunk (with_constant o (λ v. jumps_with x (value_in f w from) v by next) f fs w)) (sym i.is) (jumps_by _ by next insn at c d e g)
+      subst (λ o. IsSafeMove chunk (with_constant o (λ v. jumps_with x (value_in f w from) v by next) f fs w)) (sym i.is)
+      (jumps_by _ by next insn at c d e g)
 
   pub row_safe : (insn : Insn) (next : ℕ) → At insn next → Safe insn next
   row_safe (Nop n) next at = no_operation n next at
@@ -193,9 +216,11 @@ module _ {chunk : ChunkOf} {z : Sizes} {p : ProtoOf} {f : Frame} {fs : List Fram
   row_safe (GetGlobal to k) next at =
       named k _ (only (pos k, AName) at refl) (λ x. indexes s (Table (environment_here f w)) (Text x) to next tt tt (behind at refl refl))
   row_safe (SetGlobal from k) next at =
-      named k _ (only (pos k, AName) at refl) (λ x. newindexes s (Table (environment_here f w)) (Text x) (value_in f w from) next tt tt (here_made from) (behind at refl refl))
+      named k _ (only (pos k, AName) at refl)
+      (λ x. newindexes s (Table (environment_here f w)) (Text x) (value_in f w from) next tt tt (here_made from) (behind at refl refl))
   row_safe (GetUpvalue to u) next at =
-      gives s to (slice_index_or w.objects.cells (cell_up f u) Nil) next (each_or (IsMade z.functions) w.objects.cells (cell_up f u) Nil s.world.values tt) (behind at refl refl)
+      gives s to (slice_index_or w.objects.cells (cell_up f u) Nil) next
+      (each_or (IsMade z.functions) w.objects.cells (cell_up f u) Nil s.world.values tt) (behind at refl refl)
   row_safe (SetUpvalue from u) next at = sets_upvalue from u next (behind at refl refl)
   row_safe (CloseUpvalues from) next at = closes from next (behind at refl refl)
   row_safe (GetImport to k word) next at = loads_import to k word next at
@@ -205,7 +230,8 @@ module _ {chunk : ChunkOf} {z : Sizes} {p : ProtoOf} {f : Frame} {fs : List Fram
   row_safe (GetTableKS to t k) next at =
       named k _ (only (pos k, AName) at refl) (λ x. indexes s (value_in f w t) (Text x) to next (here_made t) tt (behind at refl refl))
   row_safe (SetTableKS from t k) next at =
-      named k _ (only (pos k, AName) at refl) (λ x. newindexes s (value_in f w t) (Text x) (value_in f w from) next (here_made t) tt (here_made from) (behind at refl refl))
+      named k _ (only (pos k, AName) at refl)
+      (λ x. newindexes s (value_in f w t) (Text x) (value_in f w from) next (here_made t) tt (here_made from) (behind at refl refl))
   row_safe (GetTableN to t n) next at = indexes s (value_in f w t) (Number (pos (n + 1))) to next (here_made t) tt (behind at refl refl)
   row_safe (SetTableN from t n) next at =
       newindexes s (value_in f w t) (Number (pos (n + 1))) (value_in f w from) next (here_made t) tt (here_made from) (behind at refl refl)
@@ -244,9 +270,11 @@ module _ {chunk : ChunkOf} {z : Sizes} {p : ProtoOf} {f : Frame} {fs : List Fram
   row_safe (Or to a b) next at =
       decides s (is_true (value_in f w a)) (value_in f w a) (value_in f w b) to next (here_made a) (here_made b) (behind at refl refl)
   row_safe (AndK to a k) next at =
-      valued (pos k) _ (only (pos k, AValue) at refl) (λ v m. decides s (is_true (value_in f w a)) v (value_in f w a) to next m (here_made a) (behind at refl refl))
+      valued (pos k) _ (only (pos k, AValue) at refl)
+      (λ v m. decides s (is_true (value_in f w a)) v (value_in f w a) to next m (here_made a) (behind at refl refl))
   row_safe (OrK to a k) next at =
-      valued (pos k) _ (only (pos k, AValue) at refl) (λ v m. decides s (is_true (value_in f w a)) (value_in f w a) v to next (here_made a) m (behind at refl refl))
+      valued (pos k) _ (only (pos k, AValue) at refl)
+      (λ v m. decides s (is_true (value_in f w a)) (value_in f w a) v to next (here_made a) m (behind at refl refl))
   row_safe (Concat to a b) next at = operands_made a b next (both _ (nat_lt a b) at.rules.registers).1 (behind at refl refl) to
   row_safe (Not to from) next at = gives s to (Boolean (not (is_true (value_in f w from)))) next tt (behind at refl refl)
   row_safe (Minus to from) next at =
@@ -259,7 +287,8 @@ module _ {chunk : ChunkOf} {z : Sizes} {p : ProtoOf} {f : Frame} {fs : List Fram
   row_safe (ForNLoop a by) next at = charges (ForNLoop a by) next at refl
   row_safe (ForGPrep a by) next at =
       iterates s (iteration (store_of w) (value_in f w a) (value_in f w (a + 1)) (value_in f w (a + 2))) a by
-      (iteration_made s (value_in f w a) (value_in f w (a + 1)) (value_in f w (a + 2)) (here_made a) (here_made (a + 1)) (here_made (a + 2))) (ahead at by refl refl)
+      (iteration_made s (value_in f w a) (value_in f w (a + 1)) (value_in f w (a + 2)) (here_made a) (here_made (a + 1)) (here_made (a + 2)))
+      (ahead at by refl refl)
   row_safe (ForGLoop a by x) next at = charges (ForGLoop a by x) next at refl
   row_safe (GetVarargs to count) next at = gives_results s to count next f.varargs s.frame.varargs (behind at refl refl)
   row_safe (PrepVarargs parameters) next at = goes s next (behind at refl refl)
@@ -270,14 +299,17 @@ module _ {chunk : ChunkOf} {z : Sizes} {p : ProtoOf} {f : Frame} {fs : List Fram
   row_safe (FastCall2 b a over c) next at =
       fast_one (FastCall2 b a over c) next b over _ (behind at refl refl) at refl (here_made a, (here_made c, tt))
   row_safe (FastCall2K b a over k) next at =
-      valued (pos k) _ (only (pos k, AValue) at refl) (λ v m. fast_one (FastCall2K b a over k) next b over _ (behind at refl refl) at refl (here_made a, (m, tt)))
+      valued (pos k) _ (only (pos k, AValue) at refl)
+      (λ v m. fast_one (FastCall2K b a over k) next b over _ (behind at refl refl) at refl (here_made a, (m, tt)))
   row_safe (JumpX by) next at = jumps s f.place by (ahead at by refl refl)
   row_safe (LoadKX to k) next at = valued (pos k) _ (only (pos k, AValue) at refl) (λ v m. gives s to v next m (behind at refl refl))
   row_safe (JumpXEqKNil from by x) next at = jumps_by _ by next (JumpXEqKNil from by x) at refl refl refl refl
   row_safe (JumpXEqKB from by x) next at = jumps_by _ by next (JumpXEqKB from by x) at refl refl refl refl
   row_safe (JumpXEqKN from by x) next at =
       jumps_equal (x % 2 ^ 24) (x / 2 ^ 31) from by next (JumpXEqKN from by x) at
-      (number_known chunk f.proto (pos (x % 2 ^ 24)) (constant_found chunk f.proto p s.frame.code sound (pos (x % 2 ^ 24)) ANumber (only (pos (x % 2 ^ 24), ANumber) at refl))) refl refl refl refl
+      (number_known chunk f.proto (pos (x % 2 ^ 24))
+      (constant_found chunk f.proto p s.frame.code sound (pos (x % 2 ^ 24)) ANumber (only (pos (x % 2 ^ 24), ANumber) at refl))) refl refl refl refl
   row_safe (JumpXEqKS from by x) next at =
       jumps_equal (x % 2 ^ 24) (x / 2 ^ 31) from by next (JumpXEqKS from by x) at
-      (name_known chunk f.proto (x % 2 ^ 24) (constant_found chunk f.proto p s.frame.code sound (pos (x % 2 ^ 24)) AName (only (pos (x % 2 ^ 24), AName) at refl))).known refl refl refl refl
+      (name_known chunk f.proto (x % 2 ^ 24)
+      (constant_found chunk f.proto p s.frame.code sound (pos (x % 2 ^ 24)) AName (only (pos (x % 2 ^ 24), AName) at refl))).known refl refl refl refl

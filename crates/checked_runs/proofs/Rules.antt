@@ -39,7 +39,8 @@ pub record KeepsRules (chunk : ChunkOf) (n : ℕ) (p : ProtoOf) (b : Before) (l 
   pub pairs : (captures_well chunk p after l.insn && (not (is_capture l.insn) || b.closes) && calls_well l.place after l.insn) ≡ true
   pub tops : (is_read (sets_top l.insn) after && is_set b.sets b.fast_two b.sets_three (reads_top l.insn)) ≡ true
 
-nine : (a b c d e f g h i : Bool) → unless a 1 ++ unless b 2 ++ unless c 3 ++ unless d 4 ++ unless e 5 ++ unless f 6 ++ unless g 7 ++ unless h 8 ++ unless i 9 ≡ []
+nine : (a b c d e f g h i : Bool)
+    → unless a 1 ++ unless b 2 ++ unless c 3 ++ unless d 4 ++ unless e 5 ++ unless f 6 ++ unless g 7 ++ unless h 8 ++ unless i 9 ≡ []
     → (a ≡ true) × (b ≡ true) × (c ≡ true) × (d ≡ true) × (e ≡ true) × (f ≡ true) × (g ≡ true) × (h ≡ true) × (i ≡ true)
 nine false b c d e f g h i k = absurd cc
 nine true false c d e f g h i k = absurd cc
@@ -71,11 +72,14 @@ passed b [] = b
 passed b (l ∷ ls) = passed (passing b l.insn) ls
 
 line_keeps : (chunk : ChunkOf) (n : ℕ) (p : ProtoOf) (b : Before) (before : List Line) (l : Line) (after : List Line)
-    → line_faults chunk n p (lines p.code) (landings false false (lines p.code)) b (before ++ l ∷ after) ≡ [] → KeepsRules chunk n p (passed b before) l after
+    → line_faults chunk n p (lines p.code) (landings false false (lines p.code)) b (before ++ l ∷ after) ≡ []
+    → KeepsRules chunk n p (passed b before) l after
 line_keeps chunk n p b [] l after e =
-    keeps_rules chunk n p b l after (none_placed n l.place _ (front_empty _ (line_faults chunk n p (lines p.code) (landings false false (lines p.code)) (passing b l.insn) after) e))
+    keeps_rules chunk n p b l after
+    (none_placed n l.place _ (front_empty _ (line_faults chunk n p (lines p.code) (landings false false (lines p.code)) (passing b l.insn) after) e))
 line_keeps chunk n p b (m ∷ before) l after e =
-    line_keeps chunk n p (passing b m.insn) before l after (rest_empty (at_place n m.place (broken chunk n p (lines p.code) (landings false false (lines p.code)) b m (before ++ l ∷ after))) _ e)
+    line_keeps chunk n p (passing b m.insn) before l after
+    (rest_empty (at_place n m.place (broken chunk n p (lines p.code) (landings false false (lines p.code)) b m (before ++ l ∷ after))) _ e)
 
 -- ---- functions
 
@@ -101,27 +105,32 @@ sound chunk n p e =
       proto = kept _ 11 (rest_empty (unless (list_all (is_sound chunk n) p.consts) 3) (unless (is_proto n p ls) 11) last);
     }
 
-each_sound : (chunk : ChunkOf) (n m k : ℕ) (ps : List ProtoOf) (p : ProtoOf) → all_faults chunk n ps ≡ [] → slice_get ps k ≡ Some p → m ≡ n + k → IsSound chunk m p
+each_sound : (chunk : ChunkOf) (n m k : ℕ) (ps : List ProtoOf) (p : ProtoOf) → all_faults chunk n ps ≡ [] → slice_get ps k ≡ Some p → m ≡ n + k
+    → IsSound chunk m p
 each_sound chunk n m k [] p e g s = absurd cc
 each_sound chunk n m zero (q ∷ ps) p e g s =
     let same : q ≡ p = cc in
     let place : n ≡ m = omega arith in
-    subst (λ q. IsSound chunk m q) same (subst (λ m. IsSound chunk m q) place (sound chunk n q (front_empty (proto_faults chunk n q) (all_faults chunk (suc n) ps) e)))
+    subst (λ q. IsSound chunk m q) same
+    (subst (λ m. IsSound chunk m q) place (sound chunk n q (front_empty (proto_faults chunk n q) (all_faults chunk (suc n) ps) e)))
 each_sound chunk n m (suc k) (q ∷ ps) p e g s =
     each_sound chunk (suc n) m k ps p (rest_empty (proto_faults chunk n q) (all_faults chunk (suc n) ps) e) g (omega arith)
 
 pub proto_sound : (chunk : ChunkOf) (n : ℕ) (p : ProtoOf) → IsWellFormed chunk → proto_at chunk n ≡ Some p → IsSound chunk n p
 unfolding code_faults
 proto_sound chunk n p e g =
-    each_sound chunk 0 n n chunk.protos p (rest_empty (at_place 0 0 (unless (is_main (proto_at chunk chunk.main)) 11)) (all_faults chunk 0 chunk.protos) e) g (omega arith)
+    each_sound chunk 0 n n chunk.protos p
+    (rest_empty (at_place 0 0 (unless (is_main (proto_at chunk chunk.main)) 11)) (all_faults chunk 0 chunk.protos) e) g (omega arith)
 
 pub main_kept : (chunk : ChunkOf) → IsWellFormed chunk → is_main (proto_at chunk chunk.main) ≡ true
 unfolding code_faults
 main_kept chunk e =
-    kept _ 11 (none_placed 0 0 (unless (is_main (proto_at chunk chunk.main)) 11) (front_empty (at_place 0 0 (unless (is_main (proto_at chunk chunk.main)) 11)) (all_faults chunk 0 chunk.protos) e))
+    kept _ 11 (none_placed 0 0 (unless (is_main (proto_at chunk chunk.main)) 11)
+    (front_empty (at_place 0 0 (unless (is_main (proto_at chunk chunk.main)) 11)) (all_faults chunk 0 chunk.protos) e))
 
 -- each line keeps the rules
 pub rules_kept : (chunk : ChunkOf) (n : ℕ) (p : ProtoOf) → IsSound chunk n p → (before : List Line) (l : Line) (after : List Line)
     → lines p.code ≡ before ++ l ∷ after → KeepsRules chunk n p (passed at_start before) l after
 rules_kept chunk n p s before l after split =
-    line_keeps chunk n p at_start before l after (sym (ap (λ ls. line_faults chunk n p (lines p.code) (landings false false (lines p.code)) at_start ls) split) ∙ s.each)
+    line_keeps chunk n p at_start before l after
+    (sym (ap (λ ls. line_faults chunk n p (lines p.code) (landings false false (lines p.code)) at_start ls) split) ∙ s.each)

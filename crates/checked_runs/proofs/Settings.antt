@@ -23,11 +23,13 @@ pub record Setting (chunk : ChunkOf) (z : Sizes) (p : ProtoOf) (f : Frame) (fs :
 
 -- ---- frames
 
-pub frame_at : {chunk : ChunkOf} {z : Sizes} {p : ProtoOf} {f : Frame} → (place : ℕ) (q : Purpose) → IsFrame chunk z p f → IsFrame chunk z p (record f { place = place; purpose = q })
+pub frame_at : {chunk : ChunkOf} {z : Sizes} {p : ProtoOf} {f : Frame} → (place : ℕ) (q : Purpose) → IsFrame chunk z p f
+    → IsFrame chunk z p (record f { place = place; purpose = q })
 frame_at place q i =
     record { code = i.code; size = i.size; upvalues = i.upvalues; cells = i.cells; closure = i.closure; varargs = i.varargs; registers = i.registers }
 
-pub with_registers : {chunk : ChunkOf} {z : Sizes} {p : ProtoOf} {f : Frame} → (regs : Registers) (top : ℕ) → ((r : ℕ) → IsRegister z (regs r)) → IsFrame chunk z p f
+pub with_registers : {chunk : ChunkOf} {z : Sizes} {p : ProtoOf} {f : Frame} → (regs : Registers) (top : ℕ) → ((r : ℕ) → IsRegister z (regs r))
+    → IsFrame chunk z p f
     → IsFrame chunk z p (record f { registers = regs; top = top })
 with_registers regs top are i =
     record { code = i.code; size = i.size; upvalues = i.upvalues; cells = i.cells; closure = i.closure; varargs = i.varargs; registers = are }
@@ -45,7 +47,8 @@ frame_ended {chunk} {z} {p} {f} top i = with_registers (trimmed f.size top f.reg
 
 -- ---- values, and writes to registers
 
-pub held_made : {chunk : ChunkOf} {z : Sizes} {w : World} → IsWorld chunk z w → (g : Register) → IsRegister z g → IsMade z.functions (held w.objects.cells g)
+pub held_made : {chunk : ChunkOf} {z : Sizes} {w : World} → IsWorld chunk z w → (g : Register) → IsRegister z g
+    → IsMade z.functions (held w.objects.cells g)
 held_made is (Val v) i = i
 held_made {chunk} {z} {w} is (Open c) i = each_or (IsMade z.functions) w.objects.cells c Nil is.values tt
 
@@ -62,11 +65,13 @@ pub rest_made : (n : ℕ) (vs : List Value) → AreMade n vs → AreMade n (rest
 rest_made n [] e = tt
 rest_made n (v ∷ vs) e = e.1
 
-pub with_values : {chunk : ChunkOf} {z : Sizes} {w : World} → (cells : List Value) → IsWorld chunk z w → length cells ≡ z.cells → AreMade z.functions cells → IsWorld chunk z (with_cells cells w)
+pub with_values : {chunk : ChunkOf} {z : Sizes} {w : World} → (cells : List Value) → IsWorld chunk z w → length cells ≡ z.cells
+    → AreMade z.functions cells → IsWorld chunk z (with_cells cells w)
 with_values cells i count are =
     record { functions = i.functions; environments = i.environments; cells = count; bodies = i.bodies; values = are; store = i.store; waits = i.waits; imports = i.imports }
 
-put_are : (z : Sizes) (regs : Registers) (r : ℕ) (g : Register) → ((q : ℕ) → IsRegister z (regs q)) → IsRegister z g → (q : ℕ) → IsRegister z (states.put regs r g q)
+put_are : (z : Sizes) (regs : Registers) (r : ℕ) (g : Register) → ((q : ℕ) → IsRegister z (regs q)) → IsRegister z g → (q : ℕ)
+    → IsRegister z (states.put regs r g q)
 put_are z regs r g are i q = chosen z (nat_eq q r) g (regs q) i (are q)
 
 written_place : (g : Register) (r : ℕ) (v : Value) (i : Inside) → (write g r v i).frame.place ≡ i.frame.place
@@ -81,17 +86,20 @@ set_all_place r [] i = refl
 set_all_place r (v ∷ vs) i = set_all_place (suc r) vs (states.set r v i) ∙ set_place r v i
 
 module _ {chunk : ChunkOf} {z : Sizes} {p : ProtoOf} where
-  pub with_frame : {f : Frame} {fs : List Frame} {w : World} → (g : Frame) → Setting chunk z p f fs w → IsFrame chunk z p g → g.closure ≡ f.closure → Setting chunk z p g fs w
+  pub with_frame : {f : Frame} {fs : List Frame} {w : World} → (g : Frame) → Setting chunk z p f fs w → IsFrame chunk z p g → g.closure ≡ f.closure
+      → Setting chunk z p g fs w
   with_frame g s i same =
       record { world = s.world; frame = i; below = s.below; waits = s.waits ∙ ap (λ c. Runs c ∷ s.below) (sym same); stacked = s.stacked }
 
-  pub active : {f : Frame} {fs : List Frame} {w : World} → (P : ProtoOf → Frame → Type 0) → Setting chunk z p f fs w → P p f → IsActive chunk z P (waiting w.waits (here (store_of w))) (f ∷ fs)
+  pub active : {f : Frame} {fs : List Frame} {w : World} → (P : ProtoOf → Frame → Type 0) → Setting chunk z p f fs w → P p f
+      → IsActive chunk z P (waiting w.waits (here (store_of w))) (f ∷ fs)
   active {f} {fs} P s h =
       record { code = p; frame = f; below = fs; functions = refl; rest = s.below; waits = s.waits; is = s.frame; stacked = s.stacked; holds = h }
 
   -- ---- the code goes on
 
-  pub goes : {f : Frame} {fs : List Frame} {w : World} → Setting chunk z p f fs w → (place : ℕ) → IsPlace p place → IsSafe chunk (state Run (at place f) fs w)
+  pub goes : {f : Frame} {fs : List Frame} {w : World} → Setting chunk z p f fs w → (place : ℕ) → IsPlace p place
+      → IsSafe chunk (state Run (at place f) fs w)
   goes {f} s place i = record {
     sizes = z;
     world = s.world;
@@ -106,22 +114,27 @@ module _ {chunk : ChunkOf} {z : Sizes} {p : ProtoOf} where
   pub value_made : {f : Frame} {fs : List Frame} {w : World} → Setting chunk z p f fs w → (r : ℕ) → IsMade z.functions (value_in f w r)
   value_made {f} s r = held_made s.world (f.registers r) (s.frame.registers r)
 
-  pub values_made : {f : Frame} {fs : List Frame} {w : World} → Setting chunk z p f fs w → (from count : ℕ) → AreMade z.functions (values_in f w from count)
+  pub values_made : {f : Frame} {fs : List Frame} {w : World} → Setting chunk z p f fs w → (from count : ℕ)
+      → AreMade z.functions (values_in f w from count)
   values_made s from zero = tt
   values_made s from (suc n) = (value_made s from, values_made s (suc from) n)
 
   -- ---- writes
 
-  pub put_register : {f : Frame} → (r : ℕ) (g : Register) → IsFrame chunk z p f → IsRegister z g → IsFrame chunk z p (record f { registers = states.put f.registers r g })
+  pub put_register : {f : Frame} → (r : ℕ) (g : Register) → IsFrame chunk z p f → IsRegister z g
+      → IsFrame chunk z p (record f { registers = states.put f.registers r g })
   put_register {f} r g i is = with_registers (states.put f.registers r g) f.top (put_are z f.registers r g i.registers is) i
 
-  written : (g : Register) (r : ℕ) (v : Value) (i : Inside) (fs : List Frame) → Setting chunk z p i.frame fs i.world → IsRegister z g → IsMade z.functions v
+  written : (g : Register) (r : ℕ) (v : Value) (i : Inside) (fs : List Frame) → Setting chunk z p i.frame fs i.world → IsRegister z g
+      → IsMade z.functions v
       → Setting chunk z p (write g r v i).frame fs (write g r v i).world
   written (Val u) r v i fs s g m =
       with_frame (record i.frame { registers = states.put i.frame.registers r (Val v) }) s (put_register r (Val v) s.frame m) refl
   written (Open c) r v i fs s g m =
       record {
-        world = with_values (set i.world.objects.cells c v) s.world (length-set i.world.objects.cells c v ∙ s.world.cells) (each_set (IsMade z.functions) i.world.objects.cells c v s.world.values m);
+        world =
+            with_values (set i.world.objects.cells c v) s.world (length-set i.world.objects.cells c v ∙ s.world.cells)
+            (each_set (IsMade z.functions) i.world.objects.cells c v s.world.values m);
         frame = s.frame;
         below = s.below;
         waits = s.waits;
@@ -138,6 +151,7 @@ module _ {chunk : ChunkOf} {z : Sizes} {p : ProtoOf} where
   set_all_keeps r (v ∷ vs) i fs s m = set_all_keeps (suc r) vs (states.set r v i) fs (set_keeps r v i fs s m.0) m.1
 
   -- a value into a register, and on
-  pub gives : {f : Frame} {fs : List Frame} {w : World} → Setting chunk z p f fs w → (to : ℕ) (v : Value) (next : ℕ) → IsMade z.functions v → IsPlace p next
+  pub gives : {f : Frame} {fs : List Frame} {w : World} → Setting chunk z p f fs w → (to : ℕ) (v : Value) (next : ℕ) → IsMade z.functions v
+      → IsPlace p next
       → IsSafeMove chunk (give to v next f fs w)
   gives {f} {fs} {w} s to v next m i = goes (set_keeps to v (inside f w) fs s m) next i

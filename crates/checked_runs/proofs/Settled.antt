@@ -35,7 +35,8 @@ stacked_left chunk z (Handles ∷ ws) fs i = i
 stacked_left chunk z (Resumes b ∷ ws) fs i = i
 stacked_left chunk z (Asks c ∷ ws) fs i = i
 
-pub own_stacked : (chunk : ChunkOf) (z : Sizes) (w : Wait) (ws : List Wait) (fs : List Frame) → IsOwnWait z.functions w → AreStacked chunk z ws fs → AreStacked chunk z (w ∷ ws) fs
+pub own_stacked : (chunk : ChunkOf) (z : Sizes) (w : Wait) (ws : List Wait) (fs : List Frame) → IsOwnWait z.functions w → AreStacked chunk z ws fs
+    → AreStacked chunk z (w ∷ ws) fs
 own_stacked chunk z (Runs c) ws fs o i = absurd o
 own_stacked chunk z Protects ws fs o i = i
 own_stacked chunk z (Guards h) ws fs o i = i
@@ -87,14 +88,17 @@ unfolding with_coroutine
 count_kept s i c = length-set s.coroutines i c
 
 -- another coroutine than the main function's own run is written
-pub coroutine_written : (n : ℕ) (s : Store) (i : ℕ) (c : CoroutineOf) → 0 < i → IsStore n s → IsCoroutine n (length s.coroutines) c → IsStore n (with_coroutine s i c)
+pub coroutine_written : (n : ℕ) (s : Store) (i : ℕ) (c : CoroutineOf) → 0 < i → IsStore n s → IsCoroutine n (length s.coroutines) c
+    → IsStore n (with_coroutine s i c)
 unfolding with_coroutine coroutine_of
 coroutine_written n s i c l is m =
     let same = length-set s.coroutines i c in
     record {
       shared = is.shared;
       tables = is.tables;
-      coroutines = subst (λ k. Each (IsCoroutine n k) (set s.coroutines i c)) (sym same) (each_set (IsCoroutine n (length s.coroutines)) s.coroutines i c is.coroutines m);
+      coroutines =
+          subst (λ k. Each (IsCoroutine n k) (set s.coroutines i c)) (sym same)
+          (each_set (IsCoroutine n (length s.coroutines)) s.coroutines i c is.coroutines m);
       some = let e = is.some in omega arith;
       running = subst (λ k. IsResumer k s.running) (sym same) is.running;
       main = ap (λ (c : CoroutineOf). is_dead c.status) (set_elsewhere s.coroutines i 0 c dead (not_zero i l)) ∙ is.main;
@@ -128,7 +132,8 @@ dead_before [] more j e = refl
 dead_before (c ∷ cs) more zero e = e
 dead_before (c ∷ cs) more (suc j) e = dead_before cs more j e
 
-was_dead : (s t : Store) (more : List CoroutineOf) (j : ℕ) → t.coroutines ≡ s.coroutines ++ more → is_dead (coroutine_of t j).status ≡ true → is_dead (coroutine_of s j).status ≡ true
+was_dead : (s t : Store) (more : List CoroutineOf) (j : ℕ) → t.coroutines ≡ s.coroutines ++ more → is_dead (coroutine_of t j).status ≡ true
+    → is_dead (coroutine_of s j).status ≡ true
 unfolding coroutine_of
 was_dead s t more j same e = dead_before s.coroutines more j (sym (ap (λ cs. is_dead (get_or cs j dead).status) same) ∙ e)
 
@@ -138,7 +143,8 @@ all_long (suc k) = ap (λ n. suc n) (all_long k)
 
 module _ {chunk : ChunkOf} {z : Sizes} {frames : ℕ → List Frame} where
   -- other things wait in the coroutine that runs
-  pub settled_set : {s : Store} {ws : Waits} → (new : List Wait) → IsSettled chunk z s ws frames → Each (IsWait z.functions) new → AreStacked chunk z new (frames (here s))
+  pub settled_set : {s : Store} {ws : Waits} → (new : List Wait) → IsSettled chunk z s ws frames → Each (IsWait z.functions) new
+      → AreStacked chunk z new (frames (here s))
       → IsSettled chunk z s (with_waiting ws (here s) new) frames
   settled_set {s} {ws} new i m st = record {
     store = i.store;
@@ -155,25 +161,31 @@ module _ {chunk : ChunkOf} {z : Sizes} {frames : ℕ → List Frame} where
           let below = here_below s i.store in
           let en = i.enough in
           let is = set_here ws (here s) new [] (omega arith) in
-          subst (λ j. AreStacked chunk z (waiting (with_waiting ws (here s) new) j) (frames j)) same (subst (λ l. AreStacked chunk z l (frames (here s))) (sym is) st)
+          subst (λ j. AreStacked chunk z (waiting (with_waiting ws (here s) new) j) (frames j)) same
+          (subst (λ l. AreStacked chunk z l (frames (here s))) (sym is) st)
       by j false e = subst (λ l. AreStacked chunk z l (frames j)) (sym (set_elsewhere ws (here s) j new [] e)) (i.stacked j)
 
-  pub settled_await : {s : Store} {ws : Waits} → (w : Wait) → IsSettled chunk z s ws frames → IsOwnWait z.functions w → IsSettled chunk z s (await w ws s) frames
+  pub settled_await : {s : Store} {ws : Waits} → (w : Wait) → IsSettled chunk z s ws frames → IsOwnWait z.functions w
+      → IsSettled chunk z s (await w ws s) frames
   settled_await {s} {ws} w i o =
-      settled_set (w ∷ waiting ws (here s)) i (own_wait z.functions w o, each_or (Each (IsWait z.functions)) ws (here s) [] i.each tt) (own_stacked chunk z w (waiting ws (here s)) (frames (here s)) o (i.stacked (here s)))
+      settled_set (w ∷ waiting ws (here s)) i (own_wait z.functions w o, each_or (Each (IsWait z.functions)) ws (here s) [] i.each tt)
+      (own_stacked chunk z w (waiting ws (here s)) (frames (here s)) o (i.stacked (here s)))
 
   -- a call no longer waits
-  pub settled_over : {s : Store} {ws : Waits} → (w : Wait) (rest : List Wait) → IsSettled chunk z s ws frames → waiting ws (here s) ≡ w ∷ rest → AreStacked chunk z rest (frames (here s))
+  pub settled_over : {s : Store} {ws : Waits} → (w : Wait) (rest : List Wait) → IsSettled chunk z s ws frames → waiting ws (here s) ≡ w ∷ rest
+      → AreStacked chunk z rest (frames (here s))
       → IsSettled chunk z s (leave ws s) frames
   settled_over {s} {ws} w rest i e st =
       let same : rest_of (waiting ws (here s)) ≡ rest = ap rest_of e in
       let all : Each (IsWait z.functions) (waiting ws (here s)) = each_or (Each (IsWait z.functions)) ws (here s) [] i.each tt in
       let kept : Each (IsWait z.functions) (w ∷ rest) = subst (Each (IsWait z.functions)) e all in
-      settled_set (rest_of (waiting ws (here s))) i (subst (Each (IsWait z.functions)) (sym same) kept.1) (subst (λ l. AreStacked chunk z l (frames (here s))) (sym same) st)
+      settled_set (rest_of (waiting ws (here s))) i (subst (Each (IsWait z.functions)) (sym same) kept.1)
+      (subst (λ l. AreStacked chunk z l (frames (here s))) (sym same) st)
 
   -- ---- the library has changed the store
 
-  pub settled_library : {s : Store} {ws : Waits} → (t : Store) (more : List CoroutineOf) → IsSettled chunk z s ws frames → Keeps z.functions s t more → IsSettled chunk z t (for_all t ws) frames
+  pub settled_library : {s : Store} {ws : Waits} → (t : Store) (more : List CoroutineOf) → IsSettled chunk z s ws frames → Keeps z.functions s t more
+      → IsSettled chunk z t (for_all t ws) frames
   settled_library {s} {ws} t more i k =
       let many = length t.coroutines - length ws in
       let same : here t ≡ here s = ap place_of_running k.running in
@@ -183,13 +195,16 @@ module _ {chunk : ChunkOf} {z : Sizes} {frames : ℕ → List Frame} where
         enough = omega (arith, length-append ws (replicate many []), all_long many);
         each = each_append (Each (IsWait z.functions)) ws (replicate many []) i.each (each_none z.functions many);
         stacked = λ j. subst (λ l. AreStacked chunk z l (frames j)) (sym (none_more ws many j)) (i.stacked j);
-        dead = λ j e d. subst (λ l. AreStacked chunk z l []) (sym (none_more ws many j)) (i.dead j (sym (ap (nat_eq j) same) ∙ e) (was_dead s t more j k.coroutines d));
+        dead =
+            λ j e d. subst (λ l. AreStacked chunk z l []) (sym (none_more ws many j)) (i.dead j (sym (ap (nat_eq j) same) ∙ e) (was_dead s t more j k.coroutines d));
       }
 
-  pub settled_environment : {s : Store} {ws : Waits} → (f : ℕ) (t : TableRef) → IsSettled chunk z s ws frames → IsSettled chunk z (with_environment s f t) ws frames
+  pub settled_environment : {s : Store} {ws : Waits} → (f : ℕ) (t : TableRef) → IsSettled chunk z s ws frames
+      → IsSettled chunk z (with_environment s f t) ws frames
   unfolding coroutine_of
   settled_environment {s} {ws} f t i = record {
-    store = record { shared = i.store.shared; tables = i.store.tables; coroutines = i.store.coroutines; some = i.store.some; running = i.store.running; main = i.store.main };
+    store =
+        record { shared = i.store.shared; tables = i.store.tables; coroutines = i.store.coroutines; some = i.store.some; running = i.store.running; main = i.store.main };
     environments = length-set s.closures f t ∙ i.environments;
     enough = i.enough;
     each = i.each;
@@ -200,7 +215,8 @@ module _ {chunk : ChunkOf} {z : Sizes} {frames : ℕ → List Frame} where
 -- ---- coroutines that are resumed and left
 
 -- who is normal, or runs, again
-becomes_made : (n : ℕ) (status : CoStatus) (o : Option ℕ) (s : Store) → IsResumer (length s.coroutines) o → IsStore n s → IsStore n (becomes status o s)
+becomes_made : (n : ℕ) (status : CoStatus) (o : Option ℕ) (s : Store) → IsResumer (length s.coroutines) o → IsStore n s
+    → IsStore n (becomes status o s)
 becomes_made n status None s r is = is
 becomes_made n status (Some i) s r is =
     let m = coroutine_made n s i is in
@@ -211,14 +227,16 @@ becomes_same status None s = record { count = refl; closures = refl; running = r
 becomes_same status (Some i) s = written_same s i (with_status (coroutine_of s i) status)
 
 -- the one that runs, or the main function's own run
-becomes_elsewhere : (status : CoStatus) (o : Option ℕ) (s : Store) (j : ℕ) → nat_eq j (place_of_running o) ≡ false → coroutine_of (becomes status o s) j ≡ coroutine_of s j
+becomes_elsewhere : (status : CoStatus) (o : Option ℕ) (s : Store) (j : ℕ) → nat_eq j (place_of_running o) ≡ false
+    → coroutine_of (becomes status o s) j ≡ coroutine_of s j
 becomes_elsewhere status None s j e = refl
 becomes_elsewhere status (Some i) s j e = written_elsewhere s i j (with_status (coroutine_of s i) status) e
 
 becomes_alive : (n : ℕ) (status : CoStatus) (o : Option ℕ) (s : Store) → is_dead status ≡ false → IsResumer (length s.coroutines) o → IsStore n s
     → is_dead (coroutine_of (becomes status o s) (place_of_running o)).status ≡ false
 becomes_alive n status None s a r is = is.main
-becomes_alive n status (Some i) s a r is = ap (λ (c : CoroutineOf). is_dead c.status) (written_here s i (with_status (coroutine_of s i) status) r.1) ∙ a
+becomes_alive n status (Some i) s a r is =
+    ap (λ (c : CoroutineOf). is_dead c.status) (written_here s i (with_status (coroutine_of s i) status) r.1) ∙ a
 
 runs_now : (n : ℕ) (s : Store) (o : Option ℕ) → IsResumer (length s.coroutines) o → IsStore n s → IsStore n (record s { running = o })
 unfolding coroutine_of
@@ -229,8 +247,10 @@ unfolding coroutine_of
 same_in s o j = refl
 
 -- the store changes, and what is dead in it is known
-settled_store : {chunk : ChunkOf} {z : Sizes} {frames : ℕ → List Frame} {s : Store} {ws : Waits} → (t : Store) → IsSettled chunk z s ws frames → IsStore z.functions t → t.closures ≡ s.closures
-    → length t.coroutines ≡ length s.coroutines → ((j : ℕ) → nat_eq j (here t) ≡ false → is_dead (coroutine_of t j).status ≡ true → AreStacked chunk z (waiting ws j) [])
+settled_store : {chunk : ChunkOf} {z : Sizes} {frames : ℕ → List Frame} {s : Store} {ws : Waits} → (t : Store) → IsSettled chunk z s ws frames
+    → IsStore z.functions t → t.closures ≡ s.closures
+    → length t.coroutines ≡ length s.coroutines
+    → ((j : ℕ) → nat_eq j (here t) ≡ false → is_dead (coroutine_of t j).status ≡ true → AreStacked chunk z (waiting ws j) [])
     → IsSettled chunk z t ws frames
 settled_store t i is closures count dead = record {
   store = is;
@@ -247,16 +267,19 @@ resumed_one s = record { body = Nil; status = Running; resumer = s.running; fail
 
 resumed_before : (s : Store) (k j : ℕ) → nat_eq j k ≡ false → coroutine_of (resumed k s) j ≡ coroutine_of (becomes Normal s.running s) j
 resumed_before s k j e =
-    same_in (with_coroutine (becomes Normal s.running s) k (resumed_one s)) (Some k) j ∙ written_elsewhere (becomes Normal s.running s) k j (resumed_one s) e
+    same_in (with_coroutine (becomes Normal s.running s) k (resumed_one s)) (Some k) j
+    ∙ written_elsewhere (becomes Normal s.running s) k j (resumed_one s) e
 
 -- a coroutine is left, and the one that has resumed it runs
-left_before : (s : Store) (k j : ℕ) (c : CoroutineOf) → nat_eq j (place_of_running (coroutine_of s k).resumer) ≡ false → coroutine_of (left k c s) j ≡ coroutine_of (with_coroutine s k c) j
+left_before : (s : Store) (k j : ℕ) (c : CoroutineOf) → nat_eq j (place_of_running (coroutine_of s k).resumer) ≡ false
+    → coroutine_of (left k c s) j ≡ coroutine_of (with_coroutine s k c) j
 left_before s k j c e =
     let r = (coroutine_of s k).resumer in
     same_in (becomes Running r (with_coroutine s k c)) r j ∙ becomes_elsewhere Running r (with_coroutine s k c) j e
 
 module _ {chunk : ChunkOf} {z : Sizes} {frames : ℕ → List Frame} {s : Store} {ws : Waits} (i : IsSettled chunk z s ws frames) where
-  resumed_dead : (k j : ℕ) (b : Bool) → nat_eq j (here s) ≡ b → nat_eq j k ≡ false → is_dead (coroutine_of (resumed k s) j).status ≡ true → AreStacked chunk z (waiting ws j) []
+  resumed_dead : (k j : ℕ) (b : Bool) → nat_eq j (here s) ≡ b → nat_eq j k ≡ false → is_dead (coroutine_of (resumed k s) j).status ≡ true
+      → AreStacked chunk z (waiting ws j) []
   resumed_dead k j true f e d =
       let same : here s ≡ j = grind (arith, nat_tests) in
       let alive = becomes_alive z.functions Normal s.running s refl i.store.running i.store in
@@ -274,22 +297,29 @@ module _ {chunk : ChunkOf} {z : Sizes} {frames : ℕ → List Frame} {s : Store}
       let in_u : IsStore n u = becomes_made n Normal s.running s i.store.running i.store in
       let same_u : Same s u = becomes_same Normal s.running s in
       let same_v : Same u v = written_same u k (resumed_one s) in
-      let good : IsCoroutine n (length u.coroutines) (resumed_one s) = record { body = tt; resumer = subst (λ m. IsResumer m s.running) (sym same_u.count) i.store.running; failure = tt } in
+      let good : IsCoroutine n (length u.coroutines) (resumed_one s) =
+      record { body = tt; resumer = subst (λ m. IsResumer m s.running) (sym same_u.count) i.store.running; failure = tt } in
       let in_v : IsStore n v = coroutine_written n u k (resumed_one s) l in_u good in
       let fits : k < length v.coroutines = omega (arith, same_u.count, same_v.count) in
-      settled_store (resumed k s) i (runs_now n v (Some k) (l, fits) in_v) (same_v.closures ∙ same_u.closures) (same_v.count ∙ same_u.count) (λ j. resumed_dead k j (nat_eq j (here s)) refl)
+      settled_store (resumed k s) i (runs_now n v (Some k) (l, fits) in_v) (same_v.closures ∙ same_u.closures) (same_v.count ∙ same_u.count)
+      (λ j. resumed_dead k j (nat_eq j (here s)) refl)
 
-  left_dead : (k : ℕ) (c : CoroutineOf) → s.running ≡ Some k → (is_dead c.status ≡ true → AreStacked chunk z (waiting ws k) []) → k < length s.coroutines → (j : ℕ) (b : Bool) → nat_eq j k ≡ b
+  left_dead : (k : ℕ) (c : CoroutineOf) → s.running ≡ Some k → (is_dead c.status ≡ true → AreStacked chunk z (waiting ws k) [])
+      → k < length s.coroutines → (j : ℕ) (b : Bool) → nat_eq j k ≡ b
       → nat_eq j (here (left k c s)) ≡ false → is_dead (coroutine_of (left k c s) j).status ≡ true → AreStacked chunk z (waiting ws j) []
   left_dead k c r st below j true f e d =
       let same : k ≡ j = grind (arith, nat_tests) in
       let now = sym (ap (λ (c : CoroutineOf). is_dead c.status) (left_before s k j c e)) ∙ d in
-      let here_now = sym (ap (λ (c : CoroutineOf). is_dead c.status) (written_here s k c below)) ∙ ap (λ j. is_dead (coroutine_of (with_coroutine s k c) j).status) same ∙ now in
+      let here_now =
+      sym (ap (λ (c : CoroutineOf). is_dead c.status) (written_here s k c below))
+      ∙ ap (λ j. is_dead (coroutine_of (with_coroutine s k c) j).status) same ∙ now in
       subst (λ j. AreStacked chunk z (waiting ws j) []) same (st here_now)
   left_dead k c r st below j false f e d =
-      i.dead j (ap (nat_eq j) (ap place_of_running r) ∙ f) (sym (ap (λ (c : CoroutineOf). is_dead c.status) (left_before s k j c e ∙ written_elsewhere s k j c f)) ∙ d)
+      i.dead j (ap (nat_eq j) (ap place_of_running r) ∙ f)
+      (sym (ap (λ (c : CoroutineOf). is_dead c.status) (left_before s k j c e ∙ written_elsewhere s k j c f)) ∙ d)
 
-  pub settled_left : (k : ℕ) (c : CoroutineOf) → s.running ≡ Some k → IsCoroutine z.functions (length s.coroutines) c → (is_dead c.status ≡ true → AreStacked chunk z (waiting ws k) [])
+  pub settled_left : (k : ℕ) (c : CoroutineOf) → s.running ≡ Some k → IsCoroutine z.functions (length s.coroutines) c
+      → (is_dead c.status ≡ true → AreStacked chunk z (waiting ws k) [])
       → IsSettled chunk z (left k c s) ws frames
   settled_left k c r good st =
       let n = z.functions in
@@ -304,7 +334,8 @@ module _ {chunk : ChunkOf} {z : Sizes} {frames : ℕ → List Frame} {s : Store}
       let by_v : IsResumer (length v.coroutines) q = subst (λ m. IsResumer m q) (sym same_v.count) by in
       let in_u : IsStore n u = becomes_made n Running q v by_v in_v in
       let by_u : IsResumer (length u.coroutines) q = subst (λ m. IsResumer m q) (sym same_u.count) by_v in
-      settled_store (left k c s) i (runs_now n u q by_u in_u) (same_u.closures ∙ same_v.closures) (same_u.count ∙ same_v.count) (λ j. left_dead k c r st runs.1 j (nat_eq j k) refl)
+      settled_store (left k c s) i (runs_now n u q by_u in_u) (same_u.closures ∙ same_v.closures) (same_u.count ∙ same_v.count)
+      (λ j. left_dead k c r st runs.1 j (nat_eq j k) refl)
 
   closed_dead : (k : ℕ) (c : CoroutineOf) → AreStacked chunk z (waiting ws k) [] → (j : ℕ) (b : Bool) → nat_eq j k ≡ b
       → nat_eq j (here s) ≡ false → is_dead (coroutine_of (with_coroutine s k c) j).status ≡ true → AreStacked chunk z (waiting ws j) []
@@ -318,12 +349,14 @@ module _ {chunk : ChunkOf} {z : Sizes} {frames : ℕ → List Frame} {s : Store}
   pub settled_closed : (k : ℕ) → 0 < k → AreStacked chunk z (waiting ws k) [] → IsSettled chunk z (with_coroutine s k dead) ws frames
   settled_closed k l st =
       let same = written_same s k dead in
-      settled_store (with_coroutine s k dead) i (coroutine_written z.functions s k dead l i.store (dead_made z.functions (length s.coroutines))) same.closures same.count
+      settled_store (with_coroutine s k dead) i (coroutine_written z.functions s k dead l i.store (dead_made z.functions (length s.coroutines)))
+      same.closures same.count
       (λ j e. closed_dead k dead st j (nat_eq j k) refl (here_same k dead j e))
 
 -- ---- coroutines in which nothing waits
 
-emptied : (chunk : ChunkOf) (z : Sizes) (ws : Waits) (k j : ℕ) (fs : List Frame) → AreStacked chunk z (waiting ws j) fs → AreStacked chunk z (waiting (with_waiting ws k []) j) fs
+emptied : (chunk : ChunkOf) (z : Sizes) (ws : Waits) (k j : ℕ) (fs : List Frame) → AreStacked chunk z (waiting ws j) fs
+    → AreStacked chunk z (waiting (with_waiting ws k []) j) fs
 emptied chunk z [] k j fs i = i
 emptied chunk z (w ∷ ws) zero zero fs i = tt
 emptied chunk z (w ∷ ws) zero (suc j) fs i = i
@@ -335,7 +368,8 @@ empty_here chunk z [] k fs = tt
 empty_here chunk z (w ∷ ws) zero fs = tt
 empty_here chunk z (w ∷ ws) (suc k) fs = empty_here chunk z ws k fs
 
-pub settled_empty : {chunk : ChunkOf} {z : Sizes} {frames : ℕ → List Frame} {s : Store} {ws : Waits} → (k : ℕ) → IsSettled chunk z s ws frames → IsSettled chunk z s (with_waiting ws k []) frames
+pub settled_empty : {chunk : ChunkOf} {z : Sizes} {frames : ℕ → List Frame} {s : Store} {ws : Waits} → (k : ℕ) → IsSettled chunk z s ws frames
+    → IsSettled chunk z s (with_waiting ws k []) frames
 settled_empty {chunk} {z} {frames} {s} {ws} k i = record {
   store = i.store;
   environments = i.environments;

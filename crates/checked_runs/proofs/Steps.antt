@@ -46,7 +46,8 @@ innermost_active chunk z (Runs c ∷ l) [] e st = absurd st
 innermost_active chunk z [] fs e st = absurd cc
 innermost_active chunk z (w ∷ l) fs e st = absurd cc
 
-left_stacked : (chunk : ChunkOf) (z : Sizes) (l : List Wait) (fs : List Frame) → is_function (first_of l) ≡ false → AreLeft chunk z l fs → AreStacked chunk z l fs
+left_stacked : (chunk : ChunkOf) (z : Sizes) (l : List Wait) (fs : List Frame) → is_function (first_of l) ≡ false → AreLeft chunk z l fs
+    → AreStacked chunk z l fs
 left_stacked chunk z [] fs e i = i
 left_stacked chunk z (Runs c ∷ l) fs e i = absurd cc
 left_stacked chunk z (Protects ∷ l) fs e i = i
@@ -55,20 +56,23 @@ left_stacked chunk z (Handles ∷ l) fs e i = i
 left_stacked chunk z (Resumes b ∷ l) fs e i = i
 left_stacked chunk z (Asks c ∷ l) fs e i = i
 
-without_first_stacked : (chunk : ChunkOf) (z : Sizes) (l : List Wait) (fs : List Frame) → is_function (first_of l) ≡ true → AreLeft chunk z l fs → AreStacked chunk z (rest_of l) (without_first fs)
+without_first_stacked : (chunk : ChunkOf) (z : Sizes) (l : List Wait) (fs : List Frame) → is_function (first_of l) ≡ true → AreLeft chunk z l fs
+    → AreStacked chunk z (rest_of l) (without_first fs)
 without_first_stacked chunk z (Runs c ∷ l) (f ∷ fs) e i = i
 without_first_stacked chunk z (Runs c ∷ l) [] e i = absurd i
 without_first_stacked chunk z [] fs e i = absurd cc
 without_first_stacked chunk z (w ∷ l) fs e i = absurd cc
 
 module _ {chunk : ChunkOf} (well : IsWellFormed chunk) (library : LibraryKeeps) {z : Sizes} {w : World} (world : IsWorld chunk z w) where
-  hands : (b : Bool) (vs : List Value) (fs : List Frame) → is_function (innermost w.waits (store_of w)) ≡ b → AreMade z.functions vs → AreStacked chunk z (waiting w.waits (here (store_of w))) fs
+  hands : (b : Bool) (vs : List Value) (fs : List Frame) → is_function (innermost w.waits (store_of w)) ≡ b → AreMade z.functions vs
+      → AreStacked chunk z (waiting w.waits (here (store_of w))) fs
       → IsSafeMove chunk (hand chunk b vs fs w)
   hands true vs fs e m st =
       record { sizes = z; world = world; doing = (m, innermost_active chunk z (waiting w.waits (here (store_of w))) fs e st) }
   hands false vs fs e m st = gives_values well library fs vs m world st
 
-  raises : (b : Bool) (v : Value) (fs : List Frame) → is_function (innermost w.waits (store_of w)) ≡ b → IsMade z.functions v → AreLeft chunk z (waiting w.waits (here (store_of w))) fs
+  raises : (b : Bool) (v : Value) (fs : List Frame) → is_function (innermost w.waits (store_of w)) ≡ b → IsMade z.functions v
+      → AreLeft chunk z (waiting w.waits (here (store_of w))) fs
       → IsSafeMove chunk (raise chunk b v fs w)
   raises true v fs e m st =
       let l = waiting w.waits (here (store_of w)) in
@@ -76,14 +80,16 @@ module _ {chunk : ChunkOf} (well : IsWellFormed chunk) (library : LibraryKeeps) 
       record {
         sizes = z;
         world = with_waits (rest_of l) world (rest_each z.functions l (those_here world));
-        doing = (m, subst (λ l. AreLeft chunk z l (without_first fs)) (sym (waits_here (rest_of l) world.store world.waits)) (stacked_left chunk z (rest_of l) (without_first fs) below));
+        doing =
+            (m, subst (λ l. AreLeft chunk z l (without_first fs)) (sym (waits_here (rest_of l) world.store world.waits)) (stacked_left chunk z (rest_of l) (without_first fs) below));
       }
   raises false v fs e m st =
       passes_error well library fs v m e world (left_stacked chunk z (waiting w.waits (here (store_of w))) fs e st)
 
   -- ---- the function that runs
 
-  setting_of : {P : ProtoOf → Frame → Type 0} {fs : List Frame} → (a : IsActive chunk z P (waiting w.waits (here (store_of w))) fs) → Setting chunk z a.code a.frame a.below w
+  setting_of : {P : ProtoOf → Frame → Type 0} {fs : List Frame} → (a : IsActive chunk z P (waiting w.waits (here (store_of w))) fs)
+      → Setting chunk z a.code a.frame a.below w
   setting_of a = record { world = world; frame = a.is; below = a.rest; waits = a.waits; stacked = a.stacked }
 
   code_same : {p : ProtoOf} {f : Frame} → IsFrame chunk z p f → code_of (proto_at chunk f.proto) ≡ p.code
@@ -95,24 +101,30 @@ module _ {chunk : ChunkOf} (well : IsWellFormed chunk) (library : LibraryKeeps) 
       let at = stands_at chunk f.proto p f.place sound i in
       subst (λ o. IsSafeMove chunk (act chunk p.code o f fs w)) (sym at.read.read) (row_safe s sound library i.line.insn i.line.next at)
 
-  charged_safe : (p : ProtoOf) (f : Frame) (fs : List Frame) → Setting chunk z p f fs w → IsSound chunk f.proto p → (insn : Insn) (next : ℕ) → is_loop insn ≡ true → Stands chunk f.proto p f.place insn next
+  charged_safe : (p : ProtoOf) (f : Frame) (fs : List Frame) → Setting chunk z p f fs w → IsSound chunk f.proto p → (insn : Insn) (next : ℕ)
+      → is_loop insn ≡ true → Stands chunk f.proto p f.place insn next
       → IsSafeMove chunk (charged insn next f fs w)
   charged_safe p f fs s sound (ForNLoop a by) next e at =
-      adds s (bounds_in f w a) a by next (leads chunk f.proto p f.place (ForNLoop a by) next sound at by refl) (goes_on chunk f.proto p f.place (ForNLoop a by) next sound at refl refl)
+      adds s (bounds_in f w a) a by next (leads chunk f.proto p f.place (ForNLoop a by) next sound at by refl)
+      (goes_on chunk f.proto p f.place (ForNLoop a by) next sound at refl refl)
   charged_safe p f fs s sound (ForGLoop a by x) next e at =
-      asks_generator s a x by next (leads chunk f.proto p f.place (ForGLoop a by x) next sound at by refl) (goes_on chunk f.proto p f.place (ForGLoop a by x) next sound at refl refl)
+      asks_generator s a x by next (leads chunk f.proto p f.place (ForGLoop a by x) next sound at by refl)
+      (goes_on chunk f.proto p f.place (ForGLoop a by x) next sound at refl refl)
   charged_safe p f fs s sound insn next e at = absurd cc
 
-  goes_round : (p : ProtoOf) (f : Frame) (fs : List Frame) → Setting chunk z p f fs w → IsLoop p f.place → IsSafeMove chunk (rows chunk Charged p.code f fs w)
+  goes_round : (p : ProtoOf) (f : Frame) (fs : List Frame) → Setting chunk z p f fs w → IsLoop p f.place
+      → IsSafeMove chunk (rows chunk Charged p.code f fs w)
   goes_round p f fs s i =
       let sound = proto_sound chunk f.proto p well s.frame.code in
       let at = stands_at chunk f.proto p f.place sound i.stands in
-      subst (λ o. IsSafeMove chunk (act_charged o f fs w)) (sym at.read.read) (charged_safe p f fs s sound i.stands.line.insn i.stands.line.next i.loop at)
+      subst (λ o. IsSafeMove chunk (act_charged o f fs w)) (sym at.read.read)
+      (charged_safe p f fs s sound i.stands.line.insn i.stands.line.next i.loop at)
 
   within : {P : ProtoOf → Frame → Type 0} → (x : Focus) (fs : List Frame) → (a : IsActive chunk z P (waiting w.waits (here (store_of w))) fs)
       → IsSafeMove chunk (rows chunk x a.code.code a.frame a.below w) → IsSafeMove chunk (inside chunk x fs w)
   within x fs a i =
-      subst (λ fs. IsSafeMove chunk (inside chunk x fs w)) (sym a.functions) (subst (λ c. IsSafeMove chunk (rows chunk x c a.frame a.below w)) (sym (code_same a.is)) i)
+      subst (λ fs. IsSafeMove chunk (inside chunk x fs w)) (sym a.functions)
+      (subst (λ c. IsSafeMove chunk (rows chunk x c a.frame a.below w)) (sym (code_same a.is)) i)
 
   moves_safe : (x : Focus) (fs : List Frame) → AreDoing chunk z x (waiting w.waits (here (store_of w))) fs → IsSafeMove chunk (moves chunk x fs w)
   moves_safe Run fs d = within Run fs d (runs d.code d.frame d.below (setting_of d) d.holds)

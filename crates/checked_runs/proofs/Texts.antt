@@ -39,7 +39,9 @@ module _ (n : ℕ) (s : Store) (is : IsStore n s) (P : List Value → Store → 
   gives v m = reading.gives n s is P stays v m
 
   bounded : (text : Bytes) → Holds P n (if nat_le (length text) longest_string then core.gives s (Text text) else ErrsWith StringTooLarge)
-  bounded text = reading.one_of n s is P stays (nat_le (length text) longest_string) (core.gives s (Text text)) (ErrsWith StringTooLarge) (gives (Text text) tt) (record { holds = tt })
+  bounded text =
+      reading.one_of n s is P stays (nat_le (length text) longest_string) (core.gives s (Text text)) (ErrsWith StringTooLarge) (gives (Text text) tt)
+      (record { holds = tt })
 
   -- ---- `math`
 
@@ -56,26 +58,32 @@ module _ (n : ℕ) (s : Store) (is : IsStore n s) (P : List Value → Store → 
   clamped : (k low high : ℤ) → Holds P n (math.clamped s k low high)
   clamped k low high =
       let z = int_min (int_max k low) high in
-      reading.one_of n s is P stays (int_lt high low) (arguments.out_of_range builtin.MathClamp 2) (core.gives s (Number z)) (record { holds = tt }) (gives (Number z) tt)
+      reading.one_of n s is P stays (int_lt high low) (arguments.out_of_range builtin.MathClamp 2) (core.gives s (Number z)) (record { holds = tt })
+      (gives (Number z) tt)
 
   pub clamp_row : (args : List Value) → AreMade n args → Holds P n (math.clamp_row args s)
   clamp_row args m =
-      given.number n P builtin.MathClamp 0 args _ m (λ k. given.number n P builtin.MathClamp 1 args _ m (λ low. given.number n P builtin.MathClamp 2 args _ m (clamped k low)))
+      given.number n P builtin.MathClamp 0 args _ m
+      (λ k. given.number n P builtin.MathClamp 1 args _ m (λ low. given.number n P builtin.MathClamp 2 args _ m (clamped k low)))
 
   -- ---- `string`
 
   byte_values : (bs : Bytes) → Holds P n (string.byte_values s bs)
   byte_values bs =
       let vs = map (λ b. Number (pos b)) bs in
-      reading.one_of n s is P stays (nat_le (length bs) string.most_values) (Answers vs s) (ErrsWith TooManyValues) (reading.gives_all n s is P stays vs (numbers_made n bs)) (record { holds = tt })
+      reading.one_of n s is P stays (nat_le (length bs) string.most_values) (Answers vs s) (ErrsWith TooManyValues)
+      (reading.gives_all n s is P stays vs (numbers_made n bs)) (record { holds = tt })
 
   pub byte_row : (args : List Value) → AreMade n args → Holds P n (string.byte_row args s)
   byte_row args m =
-      given.text n P builtin.StringByte 0 args _ m (λ bs. given.number_or n P builtin.StringByte 1 args (pos 1) _ (λ i. given.number_or n P builtin.StringByte 2 args i _ (λ j. byte_values _)))
+      given.text n P builtin.StringByte 0 args _ m
+      (λ bs. given.number_or n P builtin.StringByte 1 args (pos 1) _ (λ i. given.number_or n P builtin.StringByte 2 args i _ (λ j. byte_values _)))
 
   char_texts : (i : ℕ) (bs : Bytes) (zs : List ℤ) → Holds P n (string.char_texts s i bs zs)
   char_texts i bs [] = gives _ tt
-  char_texts i bs (z ∷ zs) = reading.one_of n s is P stays (string.is_byte z) (string.char_texts s (suc i) (bs ++ string.natural z ∷ []) zs) (arguments.out_of_range builtin.StringChar i) (char_texts (suc i) (bs ++ string.natural z ∷ []) zs) (record { holds = tt })
+  char_texts i bs (z ∷ zs) =
+      reading.one_of n s is P stays (string.is_byte z) (string.char_texts s (suc i) (bs ++ string.natural z ∷ []) zs)
+      (arguments.out_of_range builtin.StringChar i) (char_texts (suc i) (bs ++ string.natural z ∷ []) zs) (record { holds = tt })
 
   char_numbers : (i : ℕ) (zs : List ℤ) (vs : List Value) → Holds P n (string.char_numbers s i zs vs)
   char_numbers i zs [] = char_texts 0 [] zs
@@ -89,7 +97,8 @@ module _ (n : ℕ) (s : Store) (is : IsStore n s) (P : List Value → Store → 
 
   pub sub_row : (args : List Value) → AreMade n args → Holds P n (string.sub_row args s)
   sub_row args m =
-      given.text n P builtin.StringSub 0 args _ m (λ bs. given.number n P builtin.StringSub 1 args _ m (λ i. given.number_or n P builtin.StringSub 2 args (negsuc 0) _ (λ j. gives _ tt)))
+      given.text n P builtin.StringSub 0 args _ m
+      (λ bs. given.number n P builtin.StringSub 1 args _ m (λ i. given.number_or n P builtin.StringSub 2 args (negsuc 0) _ (λ j. gives _ tt)))
 
   pub of_text : (f : Builtin) (g : Bytes → Bytes) (args : List Value) → AreMade n args → Holds P n (string.of_text f g args s)
   of_text f g args m = given.text n P f 0 args _ m (λ bs. gives _ tt)
@@ -110,7 +119,8 @@ module _ (n : ℕ) (s : Store) (is : IsStore n s) (P : List Value → Store → 
   format_done : (text : Bytes) → Holds P n (format.format_done s text)
   format_done text = bounded text
 
-  hex_text : (d : format.Field) (capital : Bool) (i : ℕ) (go : format.Onward) (z : ℤ) → ((bs : Bytes) → Holds P n (go bs)) → Holds P n (format.hex_text d capital i go z)
+  hex_text : (d : format.Field) (capital : Bool) (i : ℕ) (go : format.Onward) (z : ℤ) → ((bs : Bytes) → Holds P n (go bs))
+      → Holds P n (format.hex_text d capital i go z)
   hex_text d capital i go (pos k) h = h _
   hex_text d capital i go (negsuc k) h = record { holds = tt }
 
@@ -119,10 +129,12 @@ module _ (n : ℕ) (s : Store) (is : IsStore n s) (P : List Value → Store → 
       let text = format.fitted d false (string.natural z ∷ []) in
       reading.one_of n s is P stays (string.is_byte z) (go text) (arguments.out_of_range builtin.StringFormat i) (h text) (record { holds = tt })
 
-  directive_text : (args : List Value) (i : ℕ) (text : Bytes) (d : format.Field) (form : format.Form) (go : format.Onward) → AreMade n args → ((bs : Bytes) → Holds P n (go bs))
+  directive_text : (args : List Value) (i : ℕ) (text : Bytes) (d : format.Field) (form : format.Form) (go : format.Onward) → AreMade n args
+      → ((bs : Bytes) → Holds P n (go bs))
       → Holds P n (format.directive_text s args i text d form go)
   directive_text args i text d format.AsText go m h =
-      given.any n P builtin.StringFormat i args _ m (λ v k. reading.asks_text n s is P stays v (record { builtin = builtin.StringFormat; arguments = args; at = i; text = text }) (λ bs. go (format.fitted d false bs)) k m (λ bs. h (format.fitted d false bs)))
+      given.any n P builtin.StringFormat i args _ m
+      (λ v k. reading.asks_text n s is P stays v (record { builtin = builtin.StringFormat; arguments = args; at = i; text = text }) (λ bs. go (format.fitted d false bs)) k m (λ bs. h (format.fitted d false bs)))
   directive_text args i text d format.AsDecimal go m h = given.number n P builtin.StringFormat i args _ m (λ z. h _)
   directive_text args i text d (format.AsHex capital) go m h = given.number n P builtin.StringFormat i args _ m (λ z. hex_text d capital i go z h)
   directive_text args i text d format.AsByte go m h = given.number n P builtin.StringFormat i args _ m (λ z. byte_text d i go z h)
@@ -136,12 +148,14 @@ module _ (n : ℕ) (s : Store) (is : IsStore n s) (P : List Value → Store → 
   pub format_row : (args : List Value) → AreMade n args → Holds P n (format.format_row args s)
   format_row args m = given.text n P builtin.StringFormat 0 args _ m (λ bs. formats args (format.pieces_of bs) 1 [] m)
 
-  formats_on : (c : Continue) (bs : Bytes) (d : Option (format.Field × List format.Piece)) → AreMade n c.arguments → Holds P n (format.formats_on s c bs d)
+  formats_on : (c : Continue) (bs : Bytes) (d : Option (format.Field × List format.Piece)) → AreMade n c.arguments
+      → Holds P n (format.formats_on s c bs d)
   formats_on c bs None m = record { holds = tt }
   formats_on c bs (Some d) m = formats c.arguments d.1 (suc c.at) _ m
 
   pub format_goes_on : (c : Continue) (bs : Bytes) → AreMade n c.arguments → Holds P n (format.format_goes_on c s bs)
-  format_goes_on c bs m = given.text n P builtin.StringFormat 0 c.arguments _ m (λ f. formats_on c bs (format.directive_for c.at (format.pieces_of f)) m)
+  format_goes_on c bs m =
+      given.text n P builtin.StringFormat 0 c.arguments _ m (λ f. formats_on c bs (format.directive_for c.at (format.pieces_of f)) m)
 
   -- ---- tables that are read
 
@@ -156,7 +170,8 @@ module _ (n : ℕ) (s : Store) (is : IsStore n s) (P : List Value → Store → 
 
   pub concat_row : (args : List Value) → AreMade n args → Holds P n (table.concat_row args s)
   concat_row args m =
-      given.table n P builtin.TableConcat 0 args _ m (λ t. given.text_or n P builtin.TableConcat 1 args [] _ (λ sep. given.number_or n P builtin.TableConcat 2 args (pos 1) _ (λ i. given.number_or n P builtin.TableConcat 3 args _ _ (λ j. joins _ sep i _ None))))
+      given.table n P builtin.TableConcat 0 args _ m
+      (λ t. given.text_or n P builtin.TableConcat 1 args [] _ (λ sep. given.number_or n P builtin.TableConcat 2 args (pos 1) _ (λ i. given.number_or n P builtin.TableConcat 3 args _ _ (λ j. joins _ sep i _ None))))
 
   unpacks : (t : TableOf) (i : ℤ) (count : ℕ) (b : Bool) → IsTable n t → Holds P n (table.unpacks s t i count b)
   unpacks t i count true m = reading.gives_all n s is P stays _ (reading.items_made n t i count m)
@@ -164,9 +179,11 @@ module _ (n : ℕ) (s : Store) (is : IsStore n s) (P : List Value → Store → 
 
   pub unpack_row : (args : List Value) → AreMade n args → Holds P n (table.unpack_row args s)
   unpack_row args m =
-      given.table n P builtin.TableUnpack 0 args _ m (λ t. given.number_or n P builtin.TableUnpack 1 args (pos 1) _ (λ i. given.number_or n P builtin.TableUnpack 2 args _ _ (λ j. unpacks _ i _ _ (table_made n s t is))))
+      given.table n P builtin.TableUnpack 0 args _ m
+      (λ t. given.number_or n P builtin.TableUnpack 1 args (pos 1) _ (λ i. given.number_or n P builtin.TableUnpack 2 args _ _ (λ j. unpacks _ i _ _ (table_made n s t is))))
 
-  finds_by : (b c : Bool) (k : ℤ) (a : LibAnswer) → Holds P n a → Holds P n (elim b [ true ↦ core.gives s Nil | false ↦ elim c [ true ↦ core.gives s (Number k) | false ↦ a ] ])
+  finds_by : (b c : Bool) (k : ℤ) (a : LibAnswer) → Holds P n a
+      → Holds P n (elim b [ true ↦ core.gives s Nil | false ↦ elim c [ true ↦ core.gives s (Number k) | false ↦ a ] ])
   finds_by true c k a h = gives Nil tt
   finds_by false true k a h = gives (Number k) tt
   finds_by false false k a h = h
@@ -177,7 +194,8 @@ module _ (n : ℕ) (s : Store) (is : IsStore n s) (P : List Value → Store → 
 
   pub find_row : (args : List Value) → AreMade n args → Holds P n (table.find_row args s)
   find_row args m =
-      given.table n P builtin.TableFind 0 args _ m (λ t. given.any n P builtin.TableFind 1 args _ m (λ v i. given.number_or n P builtin.TableFind 2 args (pos 1) _ (finds _ _ v)))
+      given.table n P builtin.TableFind 0 args _ m
+      (λ t. given.any n P builtin.TableFind 1 args _ m (λ v i. given.number_or n P builtin.TableFind 2 args (pos 1) _ (finds _ _ v)))
 
   pub isfrozen_row : (args : List Value) → AreMade n args → Holds P n (table.isfrozen_row args s)
   isfrozen_row args m = given.table n P builtin.TableIsfrozen 0 args _ m (λ t. gives _ tt)

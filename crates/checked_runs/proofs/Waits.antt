@@ -41,7 +41,8 @@ rest_each n (w ∷ ws) e = e.1
 
 module _ {chunk : ChunkOf} {z : Sizes} where
   -- other things wait in it
-  pub waits_set : {s : Store} {ws : Waits} {elsewhere : ℕ → List Frame} → (new : List Wait) → AreWaits chunk z s ws elsewhere → Each (IsWait z.functions) new
+  pub waits_set : {s : Store} {ws : Waits} {elsewhere : ℕ → List Frame} → (new : List Wait) → AreWaits chunk z s ws elsewhere
+      → Each (IsWait z.functions) new
       → AreWaits chunk z s (with_waiting ws (here s) new) elsewhere
   waits_set {s} {ws} {elsewhere} new i m = record {
     enough = let e = i.enough in omega (arith, length-set ws (here s) new);
@@ -50,13 +51,15 @@ module _ {chunk : ChunkOf} {z : Sizes} where
     dead = λ j e d. subst (λ l. AreStacked chunk z l []) (sym (set_elsewhere ws (here s) j new [] e)) (i.dead j e d);
   }
 
-  pub waits_here : {s : Store} {ws : Waits} {elsewhere : ℕ → List Frame} → (new : List Wait) → IsStore z.functions s → AreWaits chunk z s ws elsewhere → waiting (with_waiting ws (here s) new) (here s) ≡ new
+  pub waits_here : {s : Store} {ws : Waits} {elsewhere : ℕ → List Frame} → (new : List Wait) → IsStore z.functions s → AreWaits chunk z s ws elsewhere
+      → waiting (with_waiting ws (here s) new) (here s) ≡ new
   waits_here {s} {ws} new is i =
       let below = here_below s is in
       let e = i.enough in
       set_here ws (here s) new [] (omega arith)
 
-  pub with_waits : {w : World} → (new : List Wait) → IsWorld chunk z w → Each (IsWait z.functions) new → IsWorld chunk z (record w { waits = with_waiting w.waits (here (store_of w)) new })
+  pub with_waits : {w : World} → (new : List Wait) → IsWorld chunk z w → Each (IsWait z.functions) new
+      → IsWorld chunk z (record w { waits = with_waiting w.waits (here (store_of w)) new })
   with_waits new i m = record {
     functions = i.functions;
     environments = i.environments;
@@ -72,7 +75,8 @@ module _ {chunk : ChunkOf} {z : Sizes} where
   those_here {w} i = each_or (Each (IsWait z.functions)) w.waits (here (store_of w)) [] i.waits.each tt
 
   -- a function is left with values
-  pub hands_back : {p : ProtoOf} {f : Frame} {fs : List Frame} {w : World} → Setting chunk z p f fs w → (vs : List Value) → AreMade z.functions vs → IsSafeMove chunk (hand_back vs fs w)
+  pub hands_back : {p : ProtoOf} {f : Frame} {fs : List Frame} {w : World} → Setting chunk z p f fs w → (vs : List Value) → AreMade z.functions vs
+      → IsSafeMove chunk (hand_back vs fs w)
   hands_back {p} {f} {fs} {w} s vs m =
       let new = rest_of (waiting w.waits (here (store_of w))) in
       let below : new ≡ s.below = ap rest_of s.waits in

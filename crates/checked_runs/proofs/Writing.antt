@@ -29,10 +29,12 @@ use Rattle.checked_runs.proofs.Reading as reading
 use Rattle.checked_runs.proofs.Reading.{items_made}
 
 module _ (n : ℕ) where
-  all_written : (es : List (Value × Value)) (k : ℤ) (vs : List Value) → Each (IsEntry n) es → AreMade n vs → Each (IsEntry n) (pairs.all_written tables.same tables.is_nil Nil (λ z. Number z) es k vs)
+  all_written : (es : List (Value × Value)) (k : ℤ) (vs : List Value) → Each (IsEntry n) es → AreMade n vs
+      → Each (IsEntry n) (pairs.all_written tables.same tables.is_nil Nil (λ z. Number z) es k vs)
   all_written es k [] i m = i
   all_written es k (v ∷ vs) i m =
-      all_written (pairs.written tables.same tables.is_nil Nil es (Number k) v) (k +ℤ pos 1) vs (written_made n tables.same tables.is_nil es (Number k) v i tt m.0) m.1
+      all_written (pairs.written tables.same tables.is_nil Nil es (Number k) v) (k +ℤ pos 1) vs
+      (written_made n tables.same tables.is_nil es (Number k) v i tt m.0) m.1
 
   pub put_all_made : (t : TableOf) (k : ℤ) (vs : List Value) → IsTable n t → AreMade n vs → IsTable n (tables.put_all t k vs)
   put_all_made t k vs i m = all_written t.entries k vs i m
@@ -92,11 +94,13 @@ coroutine_more n count c i = record {
   failure = i.failure;
 }
 
-main_alive : (s : Store) (c : CoroutineOf) → 0 < length s.coroutines → is_dead (coroutine_of s 0).status ≡ false → is_dead (coroutine_of (record s { coroutines = s.coroutines ++ c ∷ [] }) 0).status ≡ false
+main_alive : (s : Store) (c : CoroutineOf) → 0 < length s.coroutines → is_dead (coroutine_of s 0).status ≡ false
+    → is_dead (coroutine_of (record s { coroutines = s.coroutines ++ c ∷ [] }) 0).status ≡ false
 unfolding coroutine_of
 main_alive s c l e = by s.coroutines l e
   where
-    by : (cs : List CoroutineOf) → 0 < length cs → is_dead (slice_index_or cs 0 dead).status ≡ false → is_dead (slice_index_or (cs ++ c ∷ []) 0 dead).status ≡ false
+    by : (cs : List CoroutineOf) → 0 < length cs → is_dead (slice_index_or cs 0 dead).status ≡ false
+        → is_dead (slice_index_or (cs ++ c ∷ []) 0 dead).status ≡ false
     by [] l e = absurd (omega arith)
     by (d ∷ cs) l e = e
 
@@ -109,9 +113,15 @@ coroutine_keeps n s f is m =
       store = record {
         shared = is.shared;
         tables = is.tables;
-        coroutines = subst (λ k. Each (IsCoroutine n k) (s.coroutines ++ c ∷ [])) (sym count) (each_append (IsCoroutine n (length s.coroutines + 1)) s.coroutines (c ∷ []) (each_map (IsCoroutine n (length s.coroutines)) (IsCoroutine n (length s.coroutines + 1)) (coroutine_more n (length s.coroutines)) s.coroutines is.coroutines) (record { body = m; resumer = tt; failure = tt }, tt));
+        coroutines =
+            subst (λ k. Each (IsCoroutine n k) (s.coroutines ++ c ∷ [])) (sym count) (each_append (IsCoroutine n (length s.coroutines + 1))
+            s.coroutines (c ∷ [])
+            (each_map (IsCoroutine n (length s.coroutines)) (IsCoroutine n (length s.coroutines + 1)) (coroutine_more n (length s.coroutines)) s.coroutines is.coroutines)
+            (record { body = m; resumer = tt; failure = tt }, tt));
         some = omega (arith, count);
-        running = subst (λ k. IsResumer k s.running) (sym count) (option_more (λ j. (0 < j) × (j < length s.coroutines)) (λ j. (0 < j) × (j < length s.coroutines + 1)) (λ j l. (l.0, let b = l.1 in omega arith)) s.running is.running);
+        running =
+            subst (λ k. IsResumer k s.running) (sym count) (option_more (λ j. (0 < j) × (j < length s.coroutines))
+            (λ j. (0 < j) × (j < length s.coroutines + 1)) (λ j l. (l.0, let b = l.1 in omega arith)) s.running is.running);
         main = main_alive s c is.some is.main;
       };
       environments = refl;
@@ -128,7 +138,8 @@ module _ (n : ℕ) (s : Store) (is : IsStore n s) where
   pub changed : (t : TableRef) (vs : List Value) (u : TableOf) → AreMade n vs → IsTable n u → Holds (AnswersAreMade n s) n (table.changed s t vs u)
   changed t vs u m i = record { holds = record { values = m; more = []; kept = with_table_keeps n s t u is i } }
 
-  changes : (t : TableRef) (vs : List Value) (r : Result TableOf RunError) → AreMade n vs → IfOk r (IsTable n) → Holds (AnswersAreMade n s) n (core.changes s t vs r)
+  changes : (t : TableRef) (vs : List Value) (r : Result TableOf RunError) → AreMade n vs → IfOk r (IsTable n)
+      → Holds (AnswersAreMade n s) n (core.changes s t vs r)
   changes t vs (Ok u) m i = changed t vs u m i
   changes t vs (Err e) m i = record { holds = tt }
 
@@ -138,7 +149,8 @@ module _ (n : ℕ) (s : Store) (is : IsStore n s) where
   gives : (v : Value) → IsMade n v → Holds (AnswersAreMade n s) n (core.gives s v)
   gives v m = reading.gives n s is (AnswersAreMade n s) stays v m
 
-  one_of : (b : Bool) (a c : LibAnswer) → Holds (AnswersAreMade n s) n a → Holds (AnswersAreMade n s) n c → Holds (AnswersAreMade n s) n (if b then a else c)
+  one_of : (b : Bool) (a c : LibAnswer) → Holds (AnswersAreMade n s) n a → Holds (AnswersAreMade n s) n c
+      → Holds (AnswersAreMade n s) n (if b then a else c)
   one_of b a c i j = reading.one_of n s is (AnswersAreMade n s) stays b a c i j
 
   at : (t : TableRef) → IsTable n (table_at s t)
@@ -146,13 +158,15 @@ module _ (n : ℕ) (s : Store) (is : IsStore n s) where
 
   pub rawset_row : (args : List Value) → AreMade n args → Holds (AnswersAreMade n s) n (core.rawset_row args s)
   rawset_row args m =
-      given.table n (AnswersAreMade n s) builtin.Rawset 0 args _ m (λ t. given.any n (AnswersAreMade n s) builtin.Rawset 1 args _ m (λ k i. given.any n (AnswersAreMade n s) builtin.Rawset 2 args _ m (λ v j. changes t _ _ (tt, tt) (set_made n (table_at s t) k v (at t) i j))))
+      given.table n (AnswersAreMade n s) builtin.Rawset 0 args _ m
+      (λ t. given.any n (AnswersAreMade n s) builtin.Rawset 1 args _ m (λ k i. given.any n (AnswersAreMade n s) builtin.Rawset 2 args _ m (λ v j. changes t _ _ (tt, tt) (set_made n (table_at s t) k v (at t) i j))))
 
   with_meta : (t : TableRef) (m : Option TableRef) → Holds (AnswersAreMade n s) n (core.with_meta s t m)
   with_meta t m =
       let u = record (table_at s t) { meta = m } in
       let a = Answers (Table t ∷ []) (with_table s t u) in
-      one_of (core.is_protected s t) (ErrsWith ProtectedMetatable) (if (table_at s t).frozen then ErrsWith ReadonlyTable else a) (record { holds = tt })
+      one_of (core.is_protected s t) (ErrsWith ProtectedMetatable) (if (table_at s t).frozen then ErrsWith ReadonlyTable else a)
+      (record { holds = tt })
       (one_of (table_at s t).frozen (ErrsWith ReadonlyTable) a (record { holds = tt }) (changed t (Table t ∷ []) u (tt, tt) (at t)))
 
   set_meta_to : (t : TableRef) (v : Value) → Holds (AnswersAreMade n s) n (core.set_meta_to s t v)
@@ -161,11 +175,13 @@ module _ (n : ℕ) (s : Store) (is : IsStore n s) where
 
   pub setmetatable_row : (args : List Value) → AreMade n args → Holds (AnswersAreMade n s) n (core.setmetatable_row args s)
   setmetatable_row args m =
-      given.table n (AnswersAreMade n s) builtin.Setmetatable 0 args _ m (λ t. given.wanted n (AnswersAreMade n s) builtin.Setmetatable 1 _ (slice_get args 1) _ (given.argument_made n args 1 m) (λ v i. set_meta_to t v))
+      given.table n (AnswersAreMade n s) builtin.Setmetatable 0 args _ m
+      (λ t. given.wanted n (AnswersAreMade n s) builtin.Setmetatable 1 _ (slice_get args 1) _ (given.argument_made n args 1 m) (λ v i. set_meta_to t v))
 
   pub split_row : (args : List Value) → AreMade n args → Holds (AnswersAreMade n s) n (string.split_row args s)
   split_row args m =
-      given.text n (AnswersAreMade n s) builtin.StringSplit 0 args _ m (λ bs. given.text_or n (AnswersAreMade n s) builtin.StringSplit 1 args (44 ∷ []) _ (λ sep. new_table _ (put_all_made n empty_table (pos 1) _ tt (texts_made n (string.split_at sep bs)))))
+      given.text n (AnswersAreMade n s) builtin.StringSplit 0 args _ m
+      (λ bs. given.text_or n (AnswersAreMade n s) builtin.StringSplit 1 args (44 ∷ []) _ (λ sep. new_table _ (put_all_made n empty_table (pos 1) _ tt (texts_made n (string.split_at sep bs)))))
 
   -- ---- `table`
 
@@ -180,7 +196,8 @@ module _ (n : ℕ) (s : Store) (is : IsStore n s) where
       let last = table.end_of (table_at s t) +ℤ pos 1 in
       let a = table.changed s t [] (table.with_inserted (table_at s t) k v) in
       one_of (table.is_between (pos 1) k last) (table.unless_frozen s t (table.if_in_range last a)) (arguments.out_of_range builtin.TableInsert 1)
-      (unless_frozen t (table.if_in_range last a) (in_range last a (changed t [] _ tt (inserted_made n (table_at s t) k v (at t) m)))) (record { holds = tt })
+      (unless_frozen t (table.if_in_range last a) (in_range last a (changed t [] _ tt (inserted_made n (table_at s t) k v (at t) m))))
+      (record { holds = tt })
 
   appends : (t : TableRef) (v : Value) → IsMade n v → Holds (AnswersAreMade n s) n (table.append s t v)
   appends t v m =
@@ -188,12 +205,14 @@ module _ (n : ℕ) (s : Store) (is : IsStore n s) where
       let a = table.changed s t [] (tables.put (table_at s t) (Number last) v) in
       unless_frozen t (table.if_in_range last a) (in_range last a (changed t [] _ tt (put_made n (table_at s t) (Number last) v (at t) tt m)))
 
-  inserts : (t : TableRef) (args : List Value) (o : Option Value) → AreMade n args → MatchOption o (Unit {0}) (IsMade n) → Holds (AnswersAreMade n s) n (table.inserts s t args o)
+  inserts : (t : TableRef) (args : List Value) (o : Option Value) → AreMade n args → MatchOption o (Unit {0}) (IsMade n)
+      → Holds (AnswersAreMade n s) n (table.inserts s t args o)
   inserts t args None m i = given.any n (AnswersAreMade n s) builtin.TableInsert 1 args _ m (λ v j. appends t v j)
   inserts t args (Some v) m i = given.number n (AnswersAreMade n s) builtin.TableInsert 1 args _ m (λ k. inserts_at t v k i)
 
   pub insert_row : (args : List Value) → AreMade n args → Holds (AnswersAreMade n s) n (table.insert_row args s)
-  insert_row args m = given.table n (AnswersAreMade n s) builtin.TableInsert 0 args _ m (λ t. inserts t args (slice_get args 2) m (given.argument_made n args 2 m))
+  insert_row args m =
+      given.table n (AnswersAreMade n s) builtin.TableInsert 0 args _ m (λ t. inserts t args (slice_get args 2) m (given.argument_made n args 2 m))
 
   removes_at : (t : TableRef) (k : ℤ) → Holds (AnswersAreMade n s) n (table.remove_at s t k)
   removes_at t k =
@@ -204,7 +223,8 @@ module _ (n : ℕ) (s : Store) (is : IsStore n s) where
 
   pub remove_row : (args : List Value) → AreMade n args → Holds (AnswersAreMade n s) n (table.remove_row args s)
   remove_row args m =
-      given.table n (AnswersAreMade n s) builtin.TableRemove 0 args _ m (λ t. given.number_or n (AnswersAreMade n s) builtin.TableRemove 1 args _ _ (removes_at t))
+      given.table n (AnswersAreMade n s) builtin.TableRemove 0 args _ m
+      (λ t. given.number_or n (AnswersAreMade n s) builtin.TableRemove 1 args _ _ (removes_at t))
 
   pub pack_row : (args : List Value) → AreMade n args → Holds (AnswersAreMade n s) n (table.pack_row args s)
   pack_row args m = new_table _ (put_made n _ (Text (codes "n")) _ (put_all_made n empty_table (pos 1) args tt m) tt tt)
@@ -214,15 +234,19 @@ module _ (n : ℕ) (s : Store) (is : IsStore n s) where
   creates k v false m = record { holds = tt }
 
   pub create_row : (args : List Value) → AreMade n args → Holds (AnswersAreMade n s) n (table.create_row args s)
-  create_row args m = given.number n (AnswersAreMade n s) builtin.TableCreate 0 args _ m (λ k. creates (string.natural k) (arguments.argument_or_nil args 1) (nat_le (string.natural k) table.most_elements) (given.nil_made n args 1 m))
+  create_row args m =
+      given.number n (AnswersAreMade n s) builtin.TableCreate 0 args _ m
+      (λ k. creates (string.natural k) (arguments.argument_or_nil args 1) (nat_le (string.natural k) table.most_elements) (given.nil_made n args 1 m))
 
   pub clear_row : (args : List Value) → AreMade n args → Holds (AnswersAreMade n s) n (table.clear_row args s)
   clear_row args m =
-      given.table n (AnswersAreMade n s) builtin.TableClear 0 args _ m (λ t. unless_frozen t _ (changed t [] (table.cleared (table_at s t)) tt (cleared_made n (table_at s t).entries (at t))))
+      given.table n (AnswersAreMade n s) builtin.TableClear 0 args _ m
+      (λ t. unless_frozen t _ (changed t [] (table.cleared (table_at s t)) tt (cleared_made n (table_at s t).entries (at t))))
 
   clones : (t : TableRef) → Holds (AnswersAreMade n s) n (table.clones s t)
   clones t =
-      one_of (core.is_protected s t) (ErrsWith ProtectedMetatable) (string.new_table s (table.copy_of (table_at s t))) (record { holds = tt }) (new_table (table.copy_of (table_at s t)) (filtered n _ (table_at s t).entries (at t)))
+      one_of (core.is_protected s t) (ErrsWith ProtectedMetatable) (string.new_table s (table.copy_of (table_at s t))) (record { holds = tt })
+      (new_table (table.copy_of (table_at s t)) (filtered n _ (table_at s t).entries (at t)))
 
   pub clone_row : (args : List Value) → AreMade n args → Holds (AnswersAreMade n s) n (table.clone_row args s)
   clone_row args m = given.table n (AnswersAreMade n s) builtin.TableClone 0 args _ m clones
@@ -243,11 +267,14 @@ module _ (n : ℕ) (s : Store) (is : IsStore n s) where
 
   moves_into : (t : TableRef) (first last k : ℤ) (v : Value) → Holds (AnswersAreMade n s) n (table.move_into s t first last k v)
   moves_into t first last k Nil = moves t t first k (string.count_between first last) (nat_le (string.count_between first last) table.most_elements)
-  moves_into t first last k v = given.table_from n (AnswersAreMade n s) builtin.TableMove 4 v _ (λ u. moves t u first k (string.count_between first last) (nat_le (string.count_between first last) table.most_elements))
+  moves_into t first last k v =
+      given.table_from n (AnswersAreMade n s) builtin.TableMove 4 v _
+      (λ u. moves t u first k (string.count_between first last) (nat_le (string.count_between first last) table.most_elements))
 
   pub move_row : (args : List Value) → AreMade n args → Holds (AnswersAreMade n s) n (table.move_row args s)
   move_row args m =
-      given.table n (AnswersAreMade n s) builtin.TableMove 0 args _ m (λ t. given.number n (AnswersAreMade n s) builtin.TableMove 1 args _ m (λ first. given.number n (AnswersAreMade n s) builtin.TableMove 2 args _ m (λ last. given.number n (AnswersAreMade n s) builtin.TableMove 3 args _ m (λ k. moves_into t first last k _))))
+      given.table n (AnswersAreMade n s) builtin.TableMove 0 args _ m
+      (λ t. given.number n (AnswersAreMade n s) builtin.TableMove 1 args _ m (λ first. given.number n (AnswersAreMade n s) builtin.TableMove 2 args _ m (λ last. given.number n (AnswersAreMade n s) builtin.TableMove 3 args _ m (λ k. moves_into t first last k _))))
 
   sorts : (t : TableRef) (v : Value) (vs : List Value) (o : Option Value) → AreMade n vs → Holds (AnswersAreMade n s) n (table.sorts s t v vs o)
   sorts t v vs None m = changed t [] _ tt (put_all_made n (table_at s t) (pos 1) (table.sorted vs) (at t) (sorted_made n vs m))
@@ -259,14 +286,17 @@ module _ (n : ℕ) (s : Store) (is : IsStore n s) where
 
   pub sort_row : (args : List Value) → AreMade n args → Holds (AnswersAreMade n s) n (table.sort_row args s)
   sort_row args m =
-      given.table n (AnswersAreMade n s) builtin.TableSort 0 args _ m (λ t. unless_frozen t _ (sort_items t (table.items (table_at s t) (pos 1) (tables.border (table_at s t))) (items_made n (table_at s t) (pos 1) (tables.border (table_at s t)) (at t))))
+      given.table n (AnswersAreMade n s) builtin.TableSort 0 args _ m
+      (λ t. unless_frozen t _ (sort_items t (table.items (table_at s t) (pos 1) (tables.border (table_at s t))) (items_made n (table_at s t) (pos 1) (tables.border (table_at s t)) (at t))))
 
   -- ---- `coroutine`
 
   pub co_create_row : (args : List Value) → AreMade n args → Holds (AnswersAreMade n s) n (co.create_row args s)
   co_create_row args m =
-      given.function n (AnswersAreMade n s) builtin.CoroutineCreate 0 args _ m (λ f i. record { holds = record { values = (is.some, tt); more = _; kept = coroutine_keeps n s f is i } })
+      given.function n (AnswersAreMade n s) builtin.CoroutineCreate 0 args _ m
+      (λ f i. record { holds = record { values = (is.some, tt); more = _; kept = coroutine_keeps n s f is i } })
 
   pub co_wrap_row : (args : List Value) → AreMade n args → Holds (AnswersAreMade n s) n (co.wrap_row args s)
   co_wrap_row args m =
-      given.function n (AnswersAreMade n s) builtin.CoroutineWrap 0 args _ m (λ f i. record { holds = record { values = (is.some, tt); more = _; kept = coroutine_keeps n s f is i } })
+      given.function n (AnswersAreMade n s) builtin.CoroutineWrap 0 args _ m
+      (λ f i. record { holds = record { values = (is.some, tt); more = _; kept = coroutine_keeps n s f is i } })

@@ -89,4 +89,5 @@ AnswerStays n s a = AnswerWith (λ vs t. AreMade n vs × (t ≡ s)) n a
 pub record LibraryKeeps : Type 0 where
   pub calls : (n : ℕ) (s : Store) (b : Builtin) (args : List Value) → IsStore n s → AreMade n args → AnswerIsMade n s (lib b args s)
   pub goes_on : (n : ℕ) (s : Store) (c : Continue) (v : Value) → IsStore n s → AreMade n c.arguments → IsMade n v → AnswerIsMade n s (go_on c v s)
-  pub fast : (n : ℕ) (s : Store) (k : ℕ) (b : Builtin) (args : List Value) → under numbered k ≡ Some b → IsStore n s → AreMade n args → AnswerStays n s (lib b args s)
+  pub fast : (n : ℕ) (s : Store) (k : ℕ) (b : Builtin) (args : List Value) → under numbered k ≡ Some b → IsStore n s → AreMade n args
+      → AnswerStays n s (lib b args s)

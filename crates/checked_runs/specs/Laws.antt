@@ -24,13 +24,19 @@ StepsStaySafe = (chunk : ChunkOf) → IsWellFormed chunk → (s : State) → IsS
 
 -- so no run of well-formed code ends for lack of a rule, whatever the bound on its turns
 abbrev pub CodeIsNeverStuck : Type 0
-CodeIsNeverStuck = (chunk : ChunkOf) → IsWellFormed chunk → (host : HostFields) (replies : List Reply) (n : ℕ) (r : Report EventKind Look) → MachineRun chunk host replies n r → r.end ≢ Stuck
+CodeIsNeverStuck =
+    (chunk : ChunkOf) → IsWellFormed chunk → (host : HostFields) (replies : List Reply) (n : ℕ) (r : Report EventKind Look) → MachineRun chunk host
+    replies n r → r.end ≢ Stuck
 
 -- each state that a run of well-formed code comes to is safe
 abbrev pub ReachedIsSafe : Type 0
-ReachedIsSafe = (chunk : ChunkOf) → IsWellFormed chunk → (host : HostFields) (replies : List Reply) (moves : ℕ) (s : State) → reached chunk host replies moves ≡ Some s → IsSafe chunk s
+ReachedIsSafe =
+    (chunk : ChunkOf) → IsWellFormed chunk → (host : HostFields) (replies : List Reply) (moves : ℕ) (s : State) → reached chunk host replies moves ≡
+    Some s → IsSafe chunk s
 
 -- where the function that runs stands in a safe state there is an instruction, and all that it names is there: each register is the
 -- function's own, each constant is of the kind that is wanted, and each jump leads to an instruction
 abbrev pub OperandsAreThere : Type 0
-OperandsAreThere = (chunk : ChunkOf) → IsWellFormed chunk → (s : State) → IsSafe chunk s → s.focus ≡ Run → (f : Frame) (fs : List Frame) → s.functions ≡ f ∷ fs → HasOperands chunk f
+OperandsAreThere =
+    (chunk : ChunkOf) → IsWellFormed chunk → (s : State) → IsSafe chunk s → s.focus ≡ Run → (f : Frame) (fs : List Frame) → s.functions ≡ f ∷ fs →
+    HasOperands chunk f
