@@ -62,6 +62,7 @@ module _ {chunk : ChunkOf} (well : IsWellFormed chunk) {z : Sizes} where
       let same : is.code ≡ p = cc in
       let at : proto_at chunk b.proto ≡ Some p = is.is ∙ ap (λ p. Some p) same in
       let start = take p.params vs in
+      let place = start_place chunk b.proto p (proto_sound chunk b.proto p well at) in
       let frame : Frame =
       record { closure = f; proto = b.proto; size = p.registers; upvalues = b.cells; varargs = varargs_of p.vararg p.params vs; place = 0; registers = filled 0 start; top = length start; purpose = Idle } in
       safe (state_with Run (frame ∷ fs) w) (record {
@@ -82,9 +83,10 @@ module _ {chunk : ChunkOf} (well : IsWellFormed chunk) {z : Sizes} where
             closure = l;
             varargs = varargs_made z.functions p.vararg p.params vs m;
             registers = λ r. filled_made z start 0 r (each_take (IsMade z.functions) p.params vs m);
+            stands = place;
           };
           stacked = stacked;
-          holds = start_place chunk b.proto p (proto_sound chunk b.proto p well at);
+          holds = place;
         };
       })
 

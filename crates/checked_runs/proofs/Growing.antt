@@ -35,6 +35,7 @@ module _ (z y : Sizes) (more : AreMore z y) where
     closure = let m = more.functions in let c = i.closure in omega arith;
     varargs = values_more f.varargs i.varargs;
     registers = λ r. register_more (f.registers r) (i.registers r);
+    stands = i.stands;
   }
 
   awaits_more : (p : ProtoOf) (place : ℕ) (q : Purpose) → Awaits p z.functions place q → Awaits p y.functions place q

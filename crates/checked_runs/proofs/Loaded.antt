@@ -127,6 +127,7 @@ loaded_is_safe chunk well host replies =
     let p = main.0 in
     let z : Sizes = record { functions = 1; cells = 0 } in
     let store = fresh_made host in
+    let start = start_place chunk chunk.main p (proto_sound chunk chunk.main p well main.1) in
     record {
       sizes = z;
       world = record {
@@ -153,8 +154,8 @@ loaded_is_safe chunk well host replies =
         rest = [];
         waits = refl;
         is =
-            record { code = main.1; size = ap size_of main.1; upvalues = sym main.2; cells = tt; closure = omega arith; varargs = tt; registers = λ r. tt };
+            record { code = main.1; size = ap size_of main.1; upvalues = sym main.2; cells = tt; closure = omega arith; varargs = tt; registers = λ r. tt; stands = start };
         stacked = tt;
-        holds = start_place chunk chunk.main p (proto_sound chunk chunk.main p well main.1);
+        holds = start;
       };
     }

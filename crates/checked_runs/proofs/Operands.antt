@@ -1,4 +1,4 @@
--- Where the function that runs stands there is an instruction, and all that it names is there.
+-- Where a function stands there is an instruction, and all that it names is there.
 use Rattle.std.proofs.Common.{◌≡◌, refl, sym, ℕ, ◌+◌, ◌<◌, ℤ, pos, negsuc, Bool, true, false, ◌||◌, List, [], ◌∷◌, Option, Some, None, arith, subst, nat_eq, nat_le}
 use Rattle.std.specs.Prelude.{MatchOption, is_some}
 use Rattle.std.specs.List.{list_all}
@@ -9,13 +9,13 @@ use Rattle.op_words.specs.Chunks.{ChunkOf, ProtoOf}
 use Rattle.machine_meaning.specs.Chunks.{proto_at}
 use Rattle.machine_meaning.specs.Needs.{Range, registers_of, fits_range, is_own, Want, finds, constants_of, upvalue_of, all_below, child_of, has_child, jump_of, goes_back}
 use Rattle.machine_meaning.specs.WellFormed.{IsWellFormed}
-use Rattle.machine_meaning.specs.States.{Frame, Focus, Run}
+use Rattle.machine_meaning.specs.States.{Frame, Focus, Run, Charged, GiveAll, Join, Follow, Invoke, Hand, Fault, Raise}
 use Rattle.machine_meaning.specs.Moves.{store_of}
 use Rattle.value_model.specs.Store.{here}
 use Rattle.value_model.specs.Waits.{Wait, waiting}
-use Rattle.checked_runs.specs.Places.{IsPlace, LeadsTo, LeadsOn}
-use Rattle.checked_runs.specs.Safe.{Each, Sizes, IsFrame, IsActive, AreDoing}
-use Rattle.checked_runs.specs.Operands.{AreOwn, IsConstant, IsChild, HasChild, HasOperands}
+use Rattle.checked_runs.specs.Places.{LeadsTo, LeadsOn}
+use Rattle.checked_runs.specs.Safe.{Each, Sizes, IsFrame, IsWaiting, IsActive, AreDoing}
+use Rattle.checked_runs.specs.Operands.{is_within, AreOwn, IsConstant, IsChild, HasChild, HasOperands}
 use Rattle.checked_runs.specs.Laws.{OperandsAreThere}
 use Rattle.checked_runs.proofs.Rules.{both, IsSound, proto_sound}
 use Rattle.checked_runs.proofs.Places.{Stands, stands_at, goes_on, leads, leads_on}
@@ -75,9 +75,9 @@ module _ (chunk : ChunkOf) (n : ℕ) (p : ProtoOf) (place : ℕ) (insn : Insn) (
     jump_ahead None e f = tt
     jump_ahead (Some by) e f = leads_on chunk n p place insn next s at by e f
 
-pub operands_at : (chunk : ChunkOf) → IsWellFormed chunk → (z : Sizes) (p : ProtoOf) (f : Frame) → IsFrame chunk z p f → IsPlace p f.place
-    → HasOperands chunk f
-operands_at chunk well z p f i place =
+pub operands_at : (chunk : ChunkOf) → IsWellFormed chunk → (z : Sizes) (p : ProtoOf) (f : Frame) → IsFrame chunk z p f → HasOperands chunk f
+operands_at chunk well z p f i =
+    let place = i.stands in
     let n = f.proto in
     let s = proto_sound chunk n p well i.code in
     let at = stands_at chunk n p f.place s place in
@@ -103,14 +103,28 @@ operands_at chunk well z p f i place =
       behind = goes_on chunk n p f.place insn place.line.next s at;
     }
 
--- the function that runs
-pub running_operands : (chunk : ChunkOf) → IsWellFormed chunk → (z : Sizes) (ws : List Wait) (f : Frame) (fs : List Frame)
-    → IsActive chunk z (λ p f. IsPlace p f.place) ws (f ∷ fs) → HasOperands chunk f
-running_operands chunk well z ws f fs a =
-    let same : a.frame ≡ f = let e = a.functions in cc in subst (HasOperands chunk) same (operands_at chunk well z a.code a.frame a.is a.holds)
+-- a function that waits
+pub waiting_operands : (chunk : ChunkOf) → IsWellFormed chunk → (z : Sizes) (f : Frame) → IsWaiting chunk z f → HasOperands chunk f
+waiting_operands chunk well z f i = operands_at chunk well z i.code f i.frame
+
+-- the innermost function
+active_operands : (chunk : ChunkOf) → IsWellFormed chunk → (z : Sizes) (P : ProtoOf → Frame → Type 0) (ws : List Wait) (f : Frame) (fs all : List Frame)
+    → all ≡ f ∷ fs → IsActive chunk z P ws all → HasOperands chunk f
+active_operands chunk well z P ws f fs all e a =
+    let same : a.frame ≡ f = let d = a.functions in cc in subst (HasOperands chunk) same (operands_at chunk well z a.code a.frame a.is)
+
+doing_operands : (chunk : ChunkOf) → IsWellFormed chunk → (z : Sizes) (x : Focus) (ws : List Wait) (f : Frame) (fs all : List Frame)
+    → all ≡ f ∷ fs → is_within x ≡ true → AreDoing chunk z x ws all → HasOperands chunk f
+doing_operands chunk well z Run ws f fs all e w d = active_operands chunk well z _ ws f fs all e d
+doing_operands chunk well z Charged ws f fs all e w d = active_operands chunk well z _ ws f fs all e d
+doing_operands chunk well z (GiveAll vs) ws f fs all e w d = active_operands chunk well z _ ws f fs all e d.1
+doing_operands chunk well z (Join vs to next) ws f fs all e w d = active_operands chunk well z _ ws f fs all e d.2
+doing_operands chunk well z (Follow base names to next) ws f fs all e w d = active_operands chunk well z _ ws f fs all e d.1
+doing_operands chunk well z (Invoke by g vs) ws f fs all e w d = absurd cc
+doing_operands chunk well z (Hand vs) ws f fs all e w d = absurd cc
+doing_operands chunk well z (Fault x) ws f fs all e w d = absurd cc
+doing_operands chunk well z (Raise v) ws f fs all e w d = absurd cc
 
 pub operands_are_there : OperandsAreThere
-operands_are_there chunk well s i focus f fs functions =
-    let ws = waiting s.world.waits (here (store_of s.world)) in
-    running_operands chunk well i.sizes ws f fs
-    (subst (λ fs. AreDoing chunk i.sizes Run ws fs) functions (subst (λ (x : Focus). AreDoing chunk i.sizes x ws s.functions) focus i.doing))
+operands_are_there chunk well s i within f fs functions =
+    doing_operands chunk well i.sizes s.focus (waiting s.world.waits (here (store_of s.world))) f fs s.functions functions within i.doing

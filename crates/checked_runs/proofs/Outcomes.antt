@@ -55,7 +55,7 @@ module _ {chunk : ChunkOf} {z : Sizes} where
       → AreStacked chunk z (waiting w.waits (here (store_of w))) (saved q f ∷ fs)
   waiting_frame {p} {f} {fs} {w} s q h =
       subst (λ ws. AreStacked chunk z ws (saved q f ∷ fs)) (sym s.waits)
-      (refl, record { code = p; frame = frame_at f.place q (frame_ended 0 s.frame); awaits = h }, s.stacked)
+      (refl, record { code = p; frame = frame_at f.place q (frame_ended 0 s.frame) s.frame.stands; awaits = h }, s.stacked)
 
   came : {p : ProtoOf} {f : Frame} {fs : List Frame} {w : World} → (o : Outcome) (ns : List Look) (q : Purpose) → Setting chunk z p f fs w
       → OutcomeIsMade z.functions o → Awaits p z.functions f.place q
@@ -63,11 +63,11 @@ module _ {chunk : ChunkOf} {z : Sizes} where
   came {p} {f} {fs} {w} (Done v) ns q s m h = record {
     sizes = z;
     world = s.world;
-    doing = ((m, tt), active (λ p f. Awaits p z.functions f.place f.purpose) (with_frame (waits_for q f) s (frame_at f.place q s.frame) refl) h);
+    doing = ((m, tt), active (λ p f. Awaits p z.functions f.place f.purpose) (with_frame (waits_for q f) s (frame_at f.place q s.frame s.frame.stands) refl) h);
   }
   came {p} {f} {fs} {w} (CallThis g vs) ns q s m h = record { sizes = z; world = s.world; doing = (m.0, m.1, waiting_frame s q h) }
   came {p} {f} {fs} {w} (Errs e) ns q s m h =
-      faults (with_frame (waits_for q f) s (frame_at f.place q s.frame) refl) e
+      faults (with_frame (waits_for q f) s (frame_at f.place q s.frame s.frame.stands) refl) e
   came {p} {f} {fs} {w} (Halts stop) ns q s m h = λ e. absurd cc
 
   pub settled : {p : ProtoOf} {f : Frame} {fs : List Frame} {w : World} → (c : Choice) (q : Purpose) → Setting chunk z p f fs w

@@ -24,15 +24,15 @@ pub record Setting (chunk : ChunkOf) (z : Sizes) (p : ProtoOf) (f : Frame) (fs :
 -- ---- frames
 
 pub frame_at : {chunk : ChunkOf} {z : Sizes} {p : ProtoOf} {f : Frame} → (place : ℕ) (q : Purpose) → IsFrame chunk z p f
-    → IsFrame chunk z p (record f { place = place; purpose = q })
-frame_at place q i =
-    record { code = i.code; size = i.size; upvalues = i.upvalues; cells = i.cells; closure = i.closure; varargs = i.varargs; registers = i.registers }
+    → IsPlace p place → IsFrame chunk z p (record f { place = place; purpose = q })
+frame_at place q i here =
+    record { code = i.code; size = i.size; upvalues = i.upvalues; cells = i.cells; closure = i.closure; varargs = i.varargs; registers = i.registers; stands = here }
 
 pub with_registers : {chunk : ChunkOf} {z : Sizes} {p : ProtoOf} {f : Frame} → (regs : Registers) (top : ℕ) → ((r : ℕ) → IsRegister z (regs r))
     → IsFrame chunk z p f
     → IsFrame chunk z p (record f { registers = regs; top = top })
 with_registers regs top are i =
-    record { code = i.code; size = i.size; upvalues = i.upvalues; cells = i.cells; closure = i.closure; varargs = i.varargs; registers = are }
+    record { code = i.code; size = i.size; upvalues = i.upvalues; cells = i.cells; closure = i.closure; varargs = i.varargs; registers = are; stands = i.stands }
 
 chosen : (z : Sizes) (b : Bool) (g h : Register) → IsRegister z g → IsRegister z h → IsRegister z (if b then g else h)
 chosen z true g h i j = i
@@ -103,7 +103,7 @@ module _ {chunk : ChunkOf} {z : Sizes} {p : ProtoOf} where
   goes {f} s place i = record {
     sizes = z;
     world = s.world;
-    doing = active (λ p f. IsPlace p f.place) (with_frame (at place f) s (frame_at place Idle s.frame) refl) i;
+    doing = active (λ p f. IsPlace p f.place) (with_frame (at place f) s (frame_at place Idle s.frame i) refl) i;
   }
 
   pub faults : {f : Frame} {fs : List Frame} {w : World} → Setting chunk z p f fs w → (e : RunError) → IsSafe chunk (state (Fault e) f fs w)

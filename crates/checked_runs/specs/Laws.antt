@@ -1,5 +1,5 @@
 -- What holds of runs of well-formed code.
-use Rattle.std.specs.Prelude.{◌≡◌, ◌≢◌, ℕ, List, ◌∷◌, Some}
+use Rattle.std.specs.Prelude.{◌≡◌, ◌≢◌, ℕ, List, ◌∷◌, Some, true}
 use Rattle.op_words.specs.Chunks.{ChunkOf}
 use Rattle.value_model.specs.declared.event.EventKind.{EventKind}
 use Rattle.value_model.specs.declared.event.Reply.{Reply}
@@ -7,12 +7,12 @@ use Rattle.value_model.specs.Fresh.{HostFields}
 use Rattle.value_model.specs.Waits.{Stuck}
 use Rattle.bounded_runs.specs.Runs.{Report}
 use Rattle.machine_meaning.specs.WellFormed.{IsWellFormed}
-use Rattle.machine_meaning.specs.States.{Frame, Run, State}
+use Rattle.machine_meaning.specs.States.{Frame, State}
 use Rattle.machine_meaning.specs.Moves.{Look}
 use Rattle.machine_meaning.specs.Steps.{step}
 use Rattle.machine_meaning.specs.Runs.{loaded, MachineRun}
 use Rattle.checked_runs.specs.Safe.{IsSafe, IsSafeMove}
-use Rattle.checked_runs.specs.Operands.{HasOperands, reached}
+use Rattle.checked_runs.specs.Operands.{HasOperands, is_within, reached}
 
 -- a run of well-formed code begins in a safe state
 abbrev pub LoadedIsSafe : Type 0
@@ -34,9 +34,8 @@ ReachedIsSafe =
     (chunk : ChunkOf) → IsWellFormed chunk → (host : HostFields) (replies : List Reply) (moves : ℕ) (s : State) → reached chunk host replies moves ≡
     Some s → IsSafe chunk s
 
--- where the function that runs stands in a safe state there is an instruction, and all that it names is there: each register is the
+-- where the innermost function of a safe state is at its instruction there is one, and all that it names is there: each register is the
 -- function's own, each constant is of the kind that is wanted, and each jump leads to an instruction
 abbrev pub OperandsAreThere : Type 0
-OperandsAreThere =
-    (chunk : ChunkOf) → IsWellFormed chunk → (s : State) → IsSafe chunk s → s.focus ≡ Run → (f : Frame) (fs : List Frame) → s.functions ≡ f ∷ fs →
-    HasOperands chunk f
+OperandsAreThere = (chunk : ChunkOf) → IsWellFormed chunk → (s : State) → IsSafe chunk s → is_within s.focus ≡ true → (f : Frame) (fs : List Frame)
+    → s.functions ≡ f ∷ fs → HasOperands chunk f

@@ -1,5 +1,5 @@
 -- What an instruction of well-formed code finds when it is done: its registers, constants, upvalue, child, and the places it leads to.
-use Rattle.std.specs.Prelude.{◌≡◌, ℕ, zero, suc, ◌+◌, ◌<◌, ℤ, true, false, List, length, Option, Some, None, MatchOption}
+use Rattle.std.specs.Prelude.{◌≡◌, ℕ, zero, suc, ◌+◌, ◌<◌, ℤ, Bool, true, false, List, length, Option, Some, None, MatchOption}
 use Rattle.std.specs.Option.{option_and_then}
 use Rattle.value_model.specs.declared.event.Reply.{Reply}
 use Rattle.value_model.specs.Fresh.{HostFields}
@@ -13,7 +13,7 @@ use Rattle.machine_meaning.specs.Chunks.{proto_at}
 use Rattle.machine_meaning.specs.Constants.{constant_at}
 use Rattle.machine_meaning.specs.Needs.{Range, registers_of, Want, is_wanted, is_sound, constants_of, is_known, is_capture, is_own, upvalue_of, child_of, jump_of, goes_back}
 use Rattle.machine_meaning.specs.WellFormed.{is_end, is_closure_or_capture}
-use Rattle.machine_meaning.specs.States.{Frame, State}
+use Rattle.machine_meaning.specs.States.{Frame, Focus, Run, Charged, GiveAll, Join, Follow, State}
 use Rattle.machine_meaning.specs.Moves.{Step}
 use Rattle.machine_meaning.specs.Steps.{step}
 use Rattle.machine_meaning.specs.Runs.{loaded}
@@ -59,6 +59,15 @@ pub record HasOperands (chunk : ChunkOf) (f : Frame) : Type 0 where
   pub jump : MatchOption (jump_of insn) (Unit {0}) (λ by. LeadsTo code f.place by)
   pub jump_on : goes_back insn ≡ false → MatchOption (jump_of insn) (Unit {0}) (λ by. LeadsOn code f.place by)
   pub behind : is_end insn ≡ false → is_closure_or_capture insn ≡ false → IsPlace code next
+
+-- the innermost function is at its instruction, or is given what this waits for
+abbrev pub is_within : Focus → Bool
+is_within Run = true
+is_within Charged = true
+is_within (GiveAll vs) = true
+is_within (Join vs to next) = true
+is_within (Follow base names to next) = true
+is_within _ = false
 
 -- ---- the states that a run comes to
 

@@ -69,7 +69,7 @@ abbrev pub IsRegister : Sizes → Register → Type 0
 IsRegister z (Val v) = IsMade z.functions v
 IsRegister z (Open c) = c < z.cells
 
--- a function that was entered has the code of a function of the chunk, and all that this needs
+-- a function that was entered has the code of a function of the chunk, and all that this needs; and it stands at an instruction
 pub record IsFrame (chunk : ChunkOf) (z : Sizes) (p : ProtoOf) (f : Frame) : Type 0 where
   pub code : proto_at chunk f.proto ≡ Some p
   pub size : f.size ≡ p.registers
@@ -78,6 +78,7 @@ pub record IsFrame (chunk : ChunkOf) (z : Sizes) (p : ProtoOf) (f : Frame) : Typ
   pub closure : f.closure < z.functions
   pub varargs : AreMade z.functions f.varargs
   pub registers : (r : ℕ) → IsRegister z (f.registers r)
+  pub stands : IsPlace p f.place
 
 -- the places to which it goes on with what it waits for
 abbrev pub Awaits : ProtoOf → (functions place : ℕ) → Purpose → Type 0

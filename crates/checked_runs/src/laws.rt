@@ -22,7 +22,7 @@ pub fn reached_is_safe()
     ensures { ReachedIsSafe }
 {}
 
-/// Where the function that runs stands in a safe state there is an instruction, and all that it names is there.
+/// Where the innermost function of a safe state is at its instruction there is one, and all that it names is there.
 pub fn operands_are_there()
     ensures { OperandsAreThere }
 {}
