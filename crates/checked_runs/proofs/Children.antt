@@ -48,10 +48,6 @@ child_is : (chunk : ChunkOf) (p : ProtoOf) (f : Frame) (d : ℤ) → proto_at ch
 child_is chunk p f (pos d) at = ap (λ o. option_and_then (λ (p : ProtoOf). slice_get p.children d) o) at
 child_is chunk p f (negsuc d) at = refl
 
-same_upvalues : (o : Option ProtoOf) → effects.upvalues_of o ≡ upvalues_of o
-same_upvalues None = refl
-same_upvalues (Some q) = refl
-
 module _ {chunk : ChunkOf} {z : Sizes} {p : ProtoOf} {f : Frame} {fs : List Frame} {w : World} (s : Setting chunk z p f fs w)
     (sound : IsSound chunk f.proto p) where
   made_of : (to : ℕ) (d : ℤ) (next : ℕ) → (at : Stands chunk f.proto p f.place (NewClosure to d) next) → (c : ℕ) (q : ProtoOf)

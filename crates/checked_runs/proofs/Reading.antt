@@ -22,12 +22,6 @@ use Rattle.checked_runs.proofs.Arguments.{Holds}
 
 -- ---- walks of a table
 
-IsFound : ℕ → Option (Value × Value) → Type 0
-IsFound n o = MatchOption o (Unit {0}) (IsEntry n)
-
-IsNext : ℕ → Option (Option (Value × Value)) → Type 0
-IsNext n o = MatchOption o (Unit {0}) (λ e. MatchOption e (Unit {0}) (IsEntry n))
-
 module _ (n : ℕ) where
   found_one : (b : Bool) (o q : Option (Value × Value)) → MatchOption o (Unit {0}) (IsEntry n) → MatchOption q (Unit {0}) (IsEntry n)
       → MatchOption (cond b o q) (Unit {0}) (IsEntry n)

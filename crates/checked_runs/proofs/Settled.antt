@@ -83,10 +83,6 @@ pub not_zero : (i : ℕ) → 0 < i → nat_eq 0 i ≡ false
 not_zero zero l = absurd (omega arith)
 not_zero (suc i) l = grind (arith, nat_tests)
 
-pub count_kept : (s : Store) (i : ℕ) (c : CoroutineOf) → length (with_coroutine s i c).coroutines ≡ length s.coroutines
-unfolding with_coroutine
-count_kept s i c = length-set s.coroutines i c
-
 -- another coroutine than the main function's own run is written
 pub coroutine_written : (n : ℕ) (s : Store) (i : ℕ) (c : CoroutineOf) → 0 < i → IsStore n s → IsCoroutine n (length s.coroutines) c
     → IsStore n (with_coroutine s i c)

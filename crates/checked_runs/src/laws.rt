@@ -1,6 +1,7 @@
 //! Laws of the runs of well-formed code.
 
 ghost use Rattle.checked_runs.specs.Laws.{CodeIsNeverStuck, LoadedIsSafe, OperandsAreThere, ReachedIsSafe, StepsStaySafe};
+ghost use Rattle.checked_runs.specs.Keeps.{LibraryKeeps, OperationsKeep};
 
 /// Well-formed code is loaded into a safe state.
 pub fn loaded_is_safe()
@@ -25,4 +26,14 @@ pub fn reached_is_safe()
 /// Where the innermost function of a safe state is at its instruction there is one, and all that it names is there.
 pub fn operands_are_there()
     ensures { OperandsAreThere }
+{}
+
+/// An operation on values makes no function, and changes tables alone.
+pub fn operations_keep()
+    ensures { OperationsKeep }
+{}
+
+/// The library makes no function, and names no coroutine but those that it was given, has made or runs in.
+pub fn library_keeps()
+    ensures { LibraryKeeps }
 {}

@@ -4,5 +4,6 @@
 mod laws;
 
 pub use laws::{
-    code_is_never_stuck, loaded_is_safe, operands_are_there, reached_is_safe, steps_stay_safe,
+    code_is_never_stuck, library_keeps, loaded_is_safe, operands_are_there, operations_keep,
+    reached_is_safe, steps_stay_safe,
 };
