@@ -1,4 +1,4 @@
--- Operations on values make no function, and change tables alone.
+-- Operations on values make no function, and leave functions and coroutines as they were.
 use Rattle.std.proofs.Common.{refl, sym, ℕ, zero, suc, ℤ, Bool, true, false, cond, List, [], ◌∷◌, ◌++◌, length, Option, Some, None, Ok, Err, Result, append-nil, codes}
 use Rattle.std.specs.Prelude.{if◌then◌else◌, int_lt, int_le, nat_le, IfOk}
 use Rattle.value_model.specs.declared.operator.ArithOp.{ArithOp}

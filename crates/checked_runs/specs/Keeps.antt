@@ -39,7 +39,7 @@ pub record ChoiceIsMade (n : ℕ) (s : Store) (c : Choice) : Type 0 where
   pub outcome : OutcomeIsMade n c.outcome
   pub kept : Keeps n s c.store []
 
--- an operation makes no function, and changes tables alone
+-- an operation makes no function, and leaves functions and coroutines as they were
 abbrev pub OperationsKeep : Type 0
 OperationsKeep = (n : ℕ) (s : Store) (o : Operation) → IsStore n s → OperandsAreMade n o → ChoiceIsMade n s (choose o s)
 

@@ -25,14 +25,14 @@ StepsStaySafe = (chunk : ChunkOf) → IsWellFormed chunk → (s : State) → IsS
 -- so no run of well-formed code ends for lack of a rule, whatever the bound on its turns
 abbrev pub CodeIsNeverStuck : Type 0
 CodeIsNeverStuck =
-    (chunk : ChunkOf) → IsWellFormed chunk → (host : HostFields) (replies : List Reply) (n : ℕ) (r : Report EventKind Look) → MachineRun chunk host
-    replies n r → r.end ≢ Stuck
+    (chunk : ChunkOf) → IsWellFormed chunk → (host : HostFields) (replies : List Reply) (n : ℕ) (r : Report EventKind Look)
+    → MachineRun chunk host replies n r → r.end ≢ Stuck
 
 -- each state that a run of well-formed code comes to is safe
 abbrev pub ReachedIsSafe : Type 0
 ReachedIsSafe =
-    (chunk : ChunkOf) → IsWellFormed chunk → (host : HostFields) (replies : List Reply) (moves : ℕ) (s : State) → reached chunk host replies moves ≡
-    Some s → IsSafe chunk s
+    (chunk : ChunkOf) → IsWellFormed chunk → (host : HostFields) (replies : List Reply) (moves : ℕ) (s : State)
+    → reached chunk host replies moves ≡ Some s → IsSafe chunk s
 
 -- where the innermost function of a safe state is at its instruction there is one, and all that it names is there: each register is the
 -- function's own, each constant is of the kind that is wanted, and each jump leads to an instruction

@@ -97,7 +97,8 @@ pub record IsWaiting (chunk : ChunkOf) (z : Sizes) (f : Frame) : Type 0 where
   pub frame : IsFrame chunk z code f
   pub awaits : Awaits code z.functions f.place f.purpose
 
--- for each function that waits in a coroutine there is one that was entered, the innermost first, and it waits for a call
+-- For each function that waits in a coroutine there is one that was entered, the innermost first, and it waits for a call. Whatever
+-- stands below these is never come to
 abbrev pub AreStacked : ChunkOf → Sizes → List Wait → List Frame → Type 0
 AreStacked chunk z [] fs = Unit {0}
 AreStacked chunk z (Runs c ∷ ws) [] = ⊥

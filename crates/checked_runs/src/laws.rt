@@ -28,7 +28,7 @@ pub fn operands_are_there()
     ensures { OperandsAreThere }
 {}
 
-/// An operation on values makes no function, and changes tables alone.
+/// An operation on values makes no function, and leaves functions and coroutines as they were.
 pub fn operations_keep()
     ensures { OperationsKeep }
 {}
