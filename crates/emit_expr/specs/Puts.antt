@@ -32,7 +32,7 @@ long n = min n 4294967295
 
 -- ---- items
 
-abbrev pub put : Item → Step
+unfoldable pub put : Item → Step
 put i d = record d { draft = record d.draft { items = d.draft.items ++ i ∷ [] } }
 
 abbrev pub insn : Insn → Step
@@ -66,14 +66,14 @@ added k place xs = if nat_eq place (length xs) then xs ++ k ∷ [] else xs
 abbrev pub constant_place : Const → Emitter → ℕ
 constant_place k d = place_of k d.draft.constants
 
-abbrev pub with_constant : Const → Step
+unfoldable pub with_constant : Const → Step
 with_constant k d = record d { draft = record d.draft { constants = added k (constant_place k d) d.draft.constants } }
 
 -- a text is a string of the chunk, which its constant names by its number
 abbrev pub text_constant : StrId → Emitter → Const
 text_constant t d = constant.Str (long (place_of_text t d.strings))
 
-abbrev pub with_string : StrId → Step
+unfoldable pub with_string : StrId → Step
 with_string t d = record d { strings = added t (place_of_text t d.strings) d.strings }
 
 abbrev pub text_place : StrId → Emitter → ℕ
@@ -85,12 +85,12 @@ with_text t d = with_constant (text_constant t d) (with_string t d)
 -- ---- variables
 
 -- a local comes in scope, in a register
-abbrev pub declare : (number register : ℕ) → Step
+unfoldable pub declare : (number register : ℕ) → Step
 declare number register d =
     record d { draft = record d.draft { variables = d.draft.variables ++ record { number = number; register = register } ∷ [] } }
 
 -- only so many variables stay in scope, those that came first
-abbrev pub forget : ℕ → Step
+unfoldable pub forget : ℕ → Step
 forget left d = record d { draft = record d.draft { variables = take left d.draft.variables } }
 
 -- where a scope begins: how many variables are in scope, and the first register that is free
@@ -107,7 +107,7 @@ blank func = record { func = func; items = []; constants = []; variables = []; c
 abbrev pub start : Emitter
 start = record { draft = blank 0; protos = []; strings = []; lost = false }
 
-abbrev pub with_draft : Draft → Step
+unfoldable pub with_draft : Draft → Step
 with_draft f d = record d { draft = f }
 
 -- the function is done
@@ -115,9 +115,9 @@ abbrev pub done : (params : ℕ) → Bool → Draft → Prototype
 done params vararg f =
     record { func = f.func; params = params; vararg = vararg; items = f.items; constants = f.constants; children = f.children }
 
-abbrev pub with_prototype : Prototype → Step
+unfoldable pub with_prototype : Prototype → Step
 with_prototype p d = record d { protos = d.protos ++ p ∷ [] }
 
 -- a prototype is a child of the function, by its number
-abbrev pub with_child : (number : ℕ) → Step
+unfoldable pub with_child : (number : ℕ) → Step
 with_child number d = record d { draft = record d.draft { children = d.draft.children ++ long number ∷ [] } }

@@ -201,6 +201,7 @@ impl Emitter {
 
     // ---- items
 
+    #[tactic(auto, unfolding(crate::specs::Puts::put))]
     fn put(&mut self, item: Item)
         ensures { Went self.old self.new (spec.put item self.old) }
     {
@@ -240,6 +241,7 @@ impl Emitter {
     }
 
     /// The place of a constant, which is added where it is new.
+    #[tactic(auto, unfolding(crate::specs::Puts::with_constant))]
     pub fn constant(&mut self, constant: Const) -> usize
         ensures place { result ≡ spec.constant_place constant self.old }
         ensures code { Went self.old self.new (spec.with_constant constant self.old) }
@@ -254,6 +256,7 @@ impl Emitter {
     }
 
     /// The constant of a text, whose string is added to the chunk's where it is new.
+    #[tactic(auto, unfolding(crate::specs::Puts::with_string))]
     fn string(&mut self, text: StrId) -> Const
         ensures constant { result ≡ spec.text_constant text self.old }
         ensures draft { self.new.draft ≡ self.old.draft }
@@ -280,6 +283,7 @@ impl Emitter {
     // ---- variables
 
     /// A local comes in scope, in a register.
+    #[tactic(auto, unfolding(crate::specs::Puts::declare))]
     pub fn declare(&mut self, number: usize, register: u8)
         ensures { Went self.old self.new (spec.declare number register self.old) }
     {
@@ -289,8 +293,10 @@ impl Emitter {
     }
 
     /// Only so many variables stay in scope.
+    #[tactic(auto, unfolding(crate::specs::Puts::forget))]
     pub fn forget(&mut self, left: usize)
-        ensures { self.new ≡ spec.forget left self.old }
+        ensures lost { self.new.lost ≡ self.old.lost }
+        ensures code { self.new ≡ spec.forget left self.old }
     {
         self.draft.variables.forget(left);
     }
@@ -298,6 +304,7 @@ impl Emitter {
     // ---- functions
 
     /// A function is done.
+    #[tactic(auto, unfolding(crate::specs::Puts::with_prototype))]
     pub fn add_prototype(&mut self, proto: Prototype)
         ensures { Went self.old self.new (spec.with_prototype proto self.old) }
     {
@@ -307,6 +314,7 @@ impl Emitter {
     }
 
     /// A prototype is a child of the function.
+    #[tactic(auto, unfolding(crate::specs::Puts::with_child))]
     pub fn add_child(&mut self, number: usize)
         ensures { Went self.old self.new (spec.with_child number self.old) }
     {

@@ -214,6 +214,7 @@ impl Emitter {
     }
 
     /// The function that was emitted is done, and its closure is made in the one around it.
+    #[tactic(auto, unfolding(crate::specs::Puts::with_draft))]
     pub fn close_over(&mut self, b: &Bindings, params: usize, vararg: bool, to: u8, outer: Draft)
         ensures { Went self.old self.new (spec.close_over b.now params vararg to outer self.old) }
     {
