@@ -1,19 +1,16 @@
 -- What the machine reads in linked code: each item's instruction, with the place behind it, and where each jump leads.
 use Rattle.std.proofs.Common.{◌≡◌, ℕ, ◌+◌, ◌≤◌, ℤ, pos, negsuc, ◌+ℤ◌, List, [], ◌∷◌, ◌++◌, length, map, Option, Some, refl, sym, ap, ◌∙◌, arith}
-use Rattle.std.specs.Prelude.{FitsSigned, IsTrue}
-use Rattle.std.specs.Int.{w16}
 use Rattle.std.proofs.lemmas.Int.{ints}
 use Rattle.std.proofs.lemmas.Option.{same_Some}
 use Rattle.op_words.specs.declared.insn.Insn.{Insn as Instruction}
-use Rattle.op_words.specs.declared.insn.Insn.TheVariants.{Jump, JumpBack, JumpIfEq, JumpIfLe, JumpIfLt, JumpIfNotEq, JumpIfNotLe, JumpIfNotLt}
 use Rattle.op_words.specs.Encoding.{encoded, IsFit}
 use Rattle.op_words.specs.Decoding.{insn_at}
 use Rattle.op_words.proofs.InsnAt.{insn_at-stands}
 use Rattle.code_link.specs.declared.item.Item.{Item}
 use Rattle.code_link.specs.declared.item.Item.TheVariants.{Insn, Branch, Label}
-use Rattle.code_link.specs.Labels.{is_jump}
 use Rattle.code_link.specs.Linking.{jumping, JumpsTo, Stands}
 use Rattle.code_link.proofs.Placing.{length-jumping}
+use Rattle.code_link.proofs.Reading.{IsFit-jumping}
 use Rattle.built_machine.specs.States.{Registers}
 use Rattle.built_machine.specs.Steps as machine
 use Rattle.built_emitter.specs.Fits.{AllFit}
@@ -35,17 +32,6 @@ Reads words place from (Branch i l ∷ is) to =
     ReadsJump words from i (place l) × Reads words place (from + length (encoded i)) is to
 Reads words place from (Label l ∷ is) to = (place l ≡ Some from) × Reads words place from is to
 
-fits_jumping : (i : Instruction) (by : ℤ) → IsTrue (is_jump i) → IsFit i → FitsSigned w16 by → IsFit (jumping i by)
-fits_jumping (Jump _) by jump fit f = record { fields = (fit.fields.0, f); aux = fit.aux }
-fits_jumping (JumpBack _) by jump fit f = record { fields = (fit.fields.0, f); aux = fit.aux }
-fits_jumping (JumpIfEq left _ right) by jump fit f = record { fields = (fit.fields.0, f); aux = fit.aux }
-fits_jumping (JumpIfLe left _ right) by jump fit f = record { fields = (fit.fields.0, f); aux = fit.aux }
-fits_jumping (JumpIfLt left _ right) by jump fit f = record { fields = (fit.fields.0, f); aux = fit.aux }
-fits_jumping (JumpIfNotEq left _ right) by jump fit f = record { fields = (fit.fields.0, f); aux = fit.aux }
-fits_jumping (JumpIfNotLe left _ right) by jump fit f = record { fields = (fit.fields.0, f); aux = fit.aux }
-fits_jumping (JumpIfNotLt left _ right) by jump fit f = record { fields = (fit.fields.0, f); aux = fit.aux }
-fits_jumping i by jump fit f = cc
-
 reads_jump : (words : List ℕ) (at : ℕ) (i : Instruction) (to : Option ℕ) → IsFit i → JumpsTo words at i to → ReadsJump words at i to
 reads_jump words at i to fit j =
     record {
@@ -53,7 +39,7 @@ reads_jump words at i to fit j =
       target = j.target;
       placed = j.placed;
       reaches = j.reaches;
-      read = insn_at-stands words at (jumping i j.by) (fits_jumping i j.by j.jump fit j.fits) j.words
+      read = insn_at-stands words at (jumping i j.by) (IsFit-jumping i j.by fit j.fits) j.words
           ∙ ap (λ n. Some (jumping i j.by, at + n)) (length-jumping i j.by);
     }
 
