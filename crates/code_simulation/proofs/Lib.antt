@@ -4,6 +4,7 @@ pub mod Names
 pub mod World
 pub mod Changes
 pub mod Stores
+pub mod Library
 pub mod Moving
 pub mod Waiting
 pub mod Registers
