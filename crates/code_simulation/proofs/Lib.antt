@@ -5,6 +5,7 @@ pub mod World
 pub mod Changes
 pub mod Stores
 pub mod Library
+pub mod Promises
 pub mod Moving
 pub mod Waiting
 pub mod Registers

@@ -54,6 +54,7 @@ ok_kept {p} {turns} {co} {ws} {ds} {d} a running coroutines waits o =
       coroutines = coroutines;
       waits = λ j ne. ap
           (λ w. waiting w j) waits;
+      room = let e = ap length waits in omega (arith, e);
       script = refl;
       code = refl;
     }) o.others) o
@@ -71,6 +72,9 @@ ok_more {p} {turns} {co} {ws} {ds} {d} a w store waits o =
           (λ s. s.coroutines) store;
       waits = λ j ne. ap (λ v. waiting v j) waits
           ∙ waiting_more_others w d.script.waits (store_s d) co j o.running ne;
+      room =
+          let e = ap length waits in
+          omega (arith, e, length-set d.script.waits (here (store_s d)) (w ∷ waiting d.script.waits (here (store_s d))));
       script = refl;
       code = refl;
     }) o.others) o
