@@ -6,6 +6,7 @@ pub mod Changes
 pub mod Stores
 pub mod Library
 pub mod Promises
+pub mod Chains
 pub mod Moving
 pub mod Waiting
 pub mod Registers
