@@ -7,6 +7,7 @@ pub mod Stores
 pub mod Library
 pub mod Promises
 pub mod Chains
+pub mod Switching
 pub mod Moving
 pub mod Waiting
 pub mod Registers

@@ -96,16 +96,16 @@ stands_below e (function go s) = absurd (true_false e)
 
 -- ---- what is decided, by the cases
 
-called_is : (by : Caller) (f : Value) (args : List Value) (reply : Option Reply) (ws : Waits) (s : Store)
+pub called_is : (by : Caller) (f : Value) (args : List Value) (reply : Option Reply) (ws : Waits) (s : Store)
     → wait ws s (Called by f args) reply ≡ decision.called by f args reply ws s
 unfolding wait
 called_is by f args reply ws s = refl
 
-given_is : (vs : List Value) (reply : Option Reply) (ws : Waits) (s : Store) → wait ws s (Given vs) reply ≡ decision.given (waiting ws (here s)) vs ws s
+pub given_is : (vs : List Value) (reply : Option Reply) (ws : Waits) (s : Store) → wait ws s (Given vs) reply ≡ decision.given (waiting ws (here s)) vs ws s
 unfolding wait
 given_is vs reply ws s = refl
 
-passed_is : (v : Value) (reply : Option Reply) (ws : Waits) (s : Store) → wait ws s (Passed v) reply ≡ decision.passed (waiting ws (here s)) v ws s
+pub passed_is : (v : Value) (reply : Option Reply) (ws : Waits) (s : Store) → wait ws s (Passed v) reply ≡ decision.passed (waiting ws (here s)) v ws s
 unfolding wait
 passed_is v reply ws s = refl
 
