@@ -8,6 +8,7 @@ pub mod Library
 pub mod Promises
 pub mod Chains
 pub mod Switching
+pub mod Resuming
 pub mod Moving
 pub mod Waiting
 pub mod Registers

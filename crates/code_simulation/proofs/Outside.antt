@@ -41,7 +41,7 @@ pub waiting_more : (w : Wait) (ws : Waits) (s : Store) (co : ℕ) → here s ≡
 waiting_more w ws s co e lt =
     ap (λ n. waiting (with_waiting ws n (w ∷ waiting ws n)) co) e ∙ get_or-set_same ws co (w ∷ waiting ws co) [] lt
 
-waiting_more_others : (w : Wait) (ws : Waits) (s : Store) (co j : ℕ) → here s ≡ co → j ≢ co → waiting (await w ws s) j ≡ waiting ws j
+pub waiting_more_others : (w : Wait) (ws : Waits) (s : Store) (co j : ℕ) → here s ≡ co → j ≢ co → waiting (await w ws s) j ≡ waiting ws j
 waiting_more_others w ws s co j e ne =
     ap (λ n. waiting (with_waiting ws n (w ∷ waiting ws n)) j) e ∙ get_or-set_other ws co j (w ∷ waiting ws co) [] ne
 

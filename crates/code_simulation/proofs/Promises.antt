@@ -111,6 +111,10 @@ waiter_map h w = record { roots = w.roots; rest = w.rest; stands = stood_map h w
 abbrev pub Before : (i k n depth : ℕ) → Type 0
 Before i k n depth = (i < n) ⊎ ((i ≡ n) × (k < depth))
 
+-- at most so many turns, and with that many at most so many coroutines that have resumed each other
+abbrev pub Within : (most deep turns depth : ℕ) → Type 0
+Within most deep turns depth = (turns ≤ most) × (turns ≡ most → depth ≤ deep)
+
 -- the stores fit, whatever the other coroutines promise
 pub record Placed (q : Setting) (co : ℕ) (ws : List Wait) (roots : List Desc) (d : Dyn) : Type 0 where
   pub base : Base q d
@@ -187,10 +191,7 @@ module _ (q : Setting) where
         → promised m k co ws a fs f ms ds
     promise_later n depth m k le r = promise_all m k (λ i j b. promise_at n depth i j (le i j b) r)
 
-  -- ---- the setting, for at most so many turns, and with that many for at most so many coroutines that have resumed each other
-
-  abbrev pub Within : (most deep turns depth : ℕ) → Type 0
-  Within most deep turns depth = (turns ≤ most) × (turns ≡ most → depth ≤ deep)
+  -- ---- the setting that is so bounded
 
   abbrev pub Others : (most deep turns co : ℕ) → Dyn → Type 0
   Others most deep turns co d = (depth : ℕ) × Within most deep turns depth × Depth (promised turns depth) depth co d
