@@ -9,6 +9,7 @@ pub mod Promises
 pub mod Chains
 pub mod Switching
 pub mod Resuming
+pub mod Closing
 pub mod Moving
 pub mod Waiting
 pub mod Registers
