@@ -185,7 +185,7 @@ module _ (p : Setting) where
       (f ∙ ap (λ o. machine_calls.entered (machine_calls.enter p.chunk o c vs ms d.code) (machine_calls.to charged event)) r.1
       ∙ ap (λ o. machine_calls.entered (machine_calls.begun o r.0 c vs ms d.code) (machine_calls.to charged event)) r.2.coded.found)
 
-  follows_same : (a : Answer) (charged : Bool) (event : Option EventKind) (left : ℕ) (fs : List source.Activation) (ms : List machine.Frame) (d : Dyn)
+  pub follows_same : (a : Answer) (charged : Bool) (event : Option EventKind) (left : ℕ) (fs : List source.Activation) (ms : List machine.Frame) (d : Dyn)
       → Base p d → Later charged left (λ l. Follows l a fs ms d) → (s : source.State) (m : machine.State)
       → source_steps.step p.texts s ≡ source_calls.follows a (source_calls.to charged event) fs d.script
       → machine_steps.step p.chunk m ≡ machine_calls.follows p.chunk a (machine_calls.to charged event) ms d.code → Alike p left s m

@@ -4,6 +4,12 @@ pub mod Names
 pub mod World
 pub mod Changes
 pub mod Stores
+pub mod Library
+pub mod Promises
+pub mod Chains
+pub mod Switching
+pub mod Resuming
+pub mod Closing
 pub mod Moving
 pub mod Waiting
 pub mod Registers

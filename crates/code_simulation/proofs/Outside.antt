@@ -16,7 +16,7 @@ use Rattle.value_model.specs.Waits.{Wait, Runs, Protects, Guards, Handles, Resum
 use Rattle.value_model.specs.Waits as kept
 use Rattle.value_model.specs.Choices.{Done, CallThis, Errs}
 use Rattle.value_model.specs.Metamethods.{is_function, callee_of, callable, metamethod}
-use Rattle.value_model.specs.Answers.{CoMove, LibAnswer, Answers, PrintsLine, ErrsWith, RaisesValue, HaltsWith, CallsBack, Moves, OnEnvironment, Reads, Replaces}
+use Rattle.value_model.specs.Answers.{CoMove, Resume, Yield, Close, LibAnswer, Answers, PrintsLine, ErrsWith, RaisesValue, HaltsWith, CallsBack, Moves, OnEnvironment, Reads, Replaces}
 use Rattle.value_model.specs.Library.{lib, go_on}
 use Rattle.value_model.specs.Waiting as decision
 use Rattle.value_model.specs.Waiting.{wait, for_all, by_library, move_by}
@@ -29,6 +29,7 @@ use Rattle.machine_meaning.specs.Steps as machine_steps
 use Rattle.code_simulation.specs.Relation.{Dyn, store_s, store_m, Setting, Desc, Ok}
 use Rattle.code_simulation.proofs.Along.{Alike, Stands, function, other, Outside, Invokes, Hands, Faults, Raises, CallsGo}
 use Rattle.code_simulation.proofs.World.{keeps_all, ok_later}
+use Rattle.code_simulation.proofs.Library.{IsClose}
 use Rattle.code_simulation.proofs.Moving.{source_goes, target_goes}
 use Rattle.code_simulation.proofs.Waiting.{stands_later, leaves, ok_leaves, innermost_s, innermost_m}
 use Rattle.code_simulation.proofs.Entering.{FuncsGo}
@@ -40,7 +41,7 @@ pub waiting_more : (w : Wait) (ws : Waits) (s : Store) (co : ℕ) → here s ≡
 waiting_more w ws s co e lt =
     ap (λ n. waiting (with_waiting ws n (w ∷ waiting ws n)) co) e ∙ get_or-set_same ws co (w ∷ waiting ws co) [] lt
 
-waiting_more_others : (w : Wait) (ws : Waits) (s : Store) (co j : ℕ) → here s ≡ co → j ≢ co → waiting (await w ws s) j ≡ waiting ws j
+pub waiting_more_others : (w : Wait) (ws : Waits) (s : Store) (co j : ℕ) → here s ≡ co → j ≢ co → waiting (await w ws s) j ≡ waiting ws j
 waiting_more_others w ws s co j e ne =
     ap (λ n. waiting (with_waiting ws n (w ∷ waiting ws n)) j) e ∙ get_or-set_other ws co j (w ∷ waiting ws co) [] ne
 
@@ -54,6 +55,7 @@ ok_kept {p} {turns} {co} {ws} {ds} {d} a running coroutines waits o =
       coroutines = coroutines;
       waits = λ j ne. ap
           (λ w. waiting w j) waits;
+      room = let e = ap length waits in omega (arith, e);
       script = refl;
       code = refl;
     }) o.others) o
@@ -71,6 +73,9 @@ ok_more {p} {turns} {co} {ws} {ds} {d} a w store waits o =
           (λ s. s.coroutines) store;
       waits = λ j ne. ap (λ v. waiting v j) waits
           ∙ waiting_more_others w d.script.waits (store_s d) co j o.running ne;
+      room =
+          let e = ap length waits in
+          omega (arith, e, length-set d.script.waits (here (store_s d)) (w ∷ waiting d.script.waits (here (store_s d))));
       script = refl;
       code = refl;
     }) o.others) o
@@ -91,16 +96,16 @@ stands_below e (function go s) = absurd (true_false e)
 
 -- ---- what is decided, by the cases
 
-called_is : (by : Caller) (f : Value) (args : List Value) (reply : Option Reply) (ws : Waits) (s : Store)
+pub called_is : (by : Caller) (f : Value) (args : List Value) (reply : Option Reply) (ws : Waits) (s : Store)
     → wait ws s (Called by f args) reply ≡ decision.called by f args reply ws s
 unfolding wait
 called_is by f args reply ws s = refl
 
-given_is : (vs : List Value) (reply : Option Reply) (ws : Waits) (s : Store) → wait ws s (Given vs) reply ≡ decision.given (waiting ws (here s)) vs ws s
+pub given_is : (vs : List Value) (reply : Option Reply) (ws : Waits) (s : Store) → wait ws s (Given vs) reply ≡ decision.given (waiting ws (here s)) vs ws s
 unfolding wait
 given_is vs reply ws s = refl
 
-passed_is : (v : Value) (reply : Option Reply) (ws : Waits) (s : Store) → wait ws s (Passed v) reply ≡ decision.passed (waiting ws (here s)) v ws s
+pub passed_is : (v : Value) (reply : Option Reply) (ws : Waits) (s : Store) → wait ws s (Passed v) reply ≡ decision.passed (waiting ws (here s)) v ws s
 unfolding wait
 passed_is v reply ws s = refl
 
@@ -130,10 +135,10 @@ record Open (c : Case) : Type 0 where
   script : (s : Store) (w : source.World) → source_calls.without_closed c s w ≡ w
   code : (s : Store) (w : machine.World) → machine_calls.without_closed c s w ≡ w
 
-closing : (by : Caller) (b : Builtin) (vs : List Value) → Open (Called by (Native b) vs) ⊎
+closing : (by : Caller) (b : Builtin) (vs : List Value) → (Open (Called by (Native b) vs) × (IsClose b vs → ⊥)) ⊎
     ((b ≡ CoroutineClose) × (i : ℕ) × (us : List Value) × (vs ≡ Thread i ∷ us))
 closing by CoroutineClose (Thread i ∷ us) = inr (refl, i, us, refl)
-closing by b vs = inl (record { script = λ s w. refl; code = λ s w. refl })
+closing by b vs = inl (record { script = λ s w. refl; code = λ s w. refl }, λ x. x)
 
 -- ---- what is a premise here: what coroutines do, and that the library's answers leave those that wait as they are
 
@@ -142,41 +147,51 @@ OutsideGo p left x ws =
     (co : ℕ) (fs : List source.Activation) (ms : List machine.Frame) (ds : List Desc) (d : Dyn) → Ok p left co ws ds d → Stands p left co ws fs ms ds
     → AlikeOutside p left x fs ms d
 
+abbrev pub HandsGo : Setting → ℕ → List Wait → Type 0
+HandsGo p left ws = (vs : List Value) → OutsideGo p left (Hands vs) ws
+
+abbrev pub RaisesGo : Setting → ℕ → List Wait → Type 0
+RaisesGo p left ws = (v : Value) → OutsideGo p left (Raises v) ws
+
+-- both decide this of a coroutine
+abbrev pub MoveGoes : Setting → ℕ → CoMove → List Wait → Type 0
+MoveGoes p left x ws =
+    (co : ℕ) (fs : List source.Activation) (ms : List machine.Frame) (ds : List Desc) (d : Dyn) → Ok p left co ws ds d → Stands p left co ws fs ms ds
+    → (s : source.State) (m : machine.State)
+    → source_steps.step p.texts s ≡ source_calls.decided (move_by x d.script.waits (store_s d)) fs d.script
+    → machine_steps.step p.chunk m ≡ machine_calls.decided p.chunk (move_by x d.script.waits (store_s d)) ms d.code → Alike p left s m
+
 -- an answer of the library keeps those that wait, and what waits for a call of its own is no function of the script
 pub record Fair (p : Setting) (left co : ℕ) (x : LibAnswer) (d : Dyn) : Type 0 where
   pub answers : (vs : List Value) (s : Store) → x ≡ Answers vs s → (here s ≡ co) × p.Others left co
       (decides d (decision.now (Gives vs) (for_all s d.script.waits) s))
   pub waits : (g : Value) (vs : List Value) (w : Wait) → x ≡ CallsBack g vs w → source_calls.is_function (Some w) ≡ false
+  pub closes : (i : ℕ) → x ≡ Moves (Close i) → ⊥
 
 pub record Coroutines (p : Setting) (left : ℕ) : Type 0 where
-  pub closes : (by : Caller) (i : ℕ) (vs : List Value) (ws : List Wait) → OutsideGo p left (Invokes by (Native CoroutineClose) (Thread i ∷ vs)) ws
-  pub wraps : (by : Caller) (i : ℕ) (vs : List Value) (ws : List Wait) → OutsideGo p left (Invokes by (Wrap i) vs) ws
-  pub moves : (x : CoMove) (co : ℕ) (ws : List Wait) (fs : List source.Activation) (ms : List machine.Frame) (ds : List Desc) (d : Dyn)
-      → Ok p left co ws ds d → Stands p left co ws fs ms ds → (s : source.State) (m : machine.State)
-      → source_steps.step p.texts s ≡ source_calls.decided (move_by x d.script.waits (store_s d)) fs d.script
-      → machine_steps.step p.chunk m ≡ machine_calls.decided p.chunk (move_by x d.script.waits (store_s d)) ms d.code → Alike p left s m
+  -- a script or the library closes one
+  pub closes : (i : ℕ) (vs : List Value) (ws : List Wait) → HandsGo p left ws → RaisesGo p left ws
+      → OutsideGo p left (Invokes ByScript (Native CoroutineClose) (Thread i ∷ vs)) ws
+  pub calls_close : (i : ℕ) (vs : List Value) (ws : List Wait) → OutsideGo p left (Invokes ByLibrary (Native CoroutineClose) (Thread i ∷ vs)) ws
+  pub wraps : (by : Caller) (i : ℕ) (vs : List Value) (ws : List Wait) → RaisesGo p left ws → OutsideGo p left (Invokes by (Wrap i) vs) ws
+  pub resumes : (i : ℕ) (args : List Value) (ws : List Wait) → HandsGo p left ws → RaisesGo p left ws → MoveGoes p left (Resume i args) ws
+  pub yields : (vs : List Value) (ws : List Wait) → RaisesGo p left ws → MoveGoes p left (Yield vs) ws
   -- the end of a coroutine that was resumed
   pub ends : (i : ℕ) (vs : List Value) (co : ℕ) (fs : List source.Activation) (ms : List machine.Frame) (ds : List Desc) (d : Dyn)
       → (store_s d).running ≡ Some i → Ok p left co [] ds d → Stands p left co [] fs ms ds → AlikeOutside p left (Hands vs) fs ms d
   pub dies : (i : ℕ) (v : Value) (co : ℕ) (fs : List source.Activation) (ms : List machine.Frame) (ds : List Desc) (d : Dyn)
       → (store_s d).running ≡ Some i → Ok p left co [] ds d → Stands p left co [] fs ms ds → AlikeOutside p left (Raises v) fs ms d
-  pub library : (b : Builtin) (args : List Value) (co : ℕ) (ws : List Wait) (ds : List Desc) (d : Dyn) → Ok p left co ws ds d
+  pub library : (b : Builtin) (args : List Value) → (IsClose b args → ⊥) → (co : ℕ) (ws : List Wait) (ds : List Desc) (d : Dyn) → Ok p left co ws ds d
       → Fair p left co (lib b args (store_s d)) d
   pub continues : (c : Continue) (v : Value) (co : ℕ) (ws : List Wait) (ds : List Desc) (d : Dyn) → Ok p left co ws ds d
       → Fair p left co (go_on c v (store_s d)) d
 
 module _ (p : Setting) (left : ℕ) (co_laws : Coroutines p left) (fewer_calls : (i : ℕ) → i < left → CallsGo p i)
     (funcs : (i : ℕ) → i < left → FuncsGo p i) where
-  abbrev HandsGo : List Wait → Type 0
-  HandsGo ws = (vs : List Value) → OutsideGo p left (Hands vs) ws
-
-  abbrev RaisesGo : List Wait → Type 0
-  RaisesGo ws = (v : Value) → OutsideGo p left (Raises v) ws
-
   abbrev LibraryGoes : List Wait → Type 0
   LibraryGoes ws = (f : Value) (vs : List Value) → OutsideGo p left (Invokes ByLibrary f vs) ws
 
-  faults_go : (ws : List Wait) → RaisesGo ws → (e : RunError) → OutsideGo p left (Faults e) ws
+  faults_go : (ws : List Wait) → RaisesGo p left ws → (e : RunError) → OutsideGo p left (Faults e) ws
   faults_go ws raises e co fs ms ds d o stands =
       source_goes p refl (target_goes p refl (raises (Text (error_text e)) co fs ms ds d o stands))
 
@@ -221,46 +236,46 @@ module _ (p : Setting) (left : ℕ) (co_laws : Coroutines p left) (fewer_calls :
       _ _ refl refl
 
   -- the library calls a function
-  function_goes : (ws : List Wait) → (g : Value) (vs : List Value) → is_function g ≡ true → OutsideGo p left (Invokes ByLibrary g vs) ws
+  function_goes : (ws : List Wait) → RaisesGo p left ws → (g : Value) (vs : List Value) → is_function g ≡ true → OutsideGo p left (Invokes ByLibrary g vs) ws
   unfolding is_function
-  function_goes ws (Closure c) vs e co fs ms ds d o stands = closure_goes ByLibrary c vs ws co fs ms ds d o stands
-  function_goes ws (Native b) vs e co fs ms ds d o stands =
+  function_goes ws raises (Closure c) vs e co fs ms ds d o stands = closure_goes ByLibrary c vs ws co fs ms ds d o stands
+  function_goes ws raises (Native b) vs e co fs ms ds d o stands =
       ⊎_elim
-      (λ keeps_open. charged_goes (Native b) vs ws co fs ms ds d keeps_open refl o stands)
+      (λ x. charged_goes (Native b) vs ws co fs ms ds d x.0 refl o stands)
       (λ x. subst (λ b. AlikeOutside p left (Invokes ByLibrary (Native b) vs) fs ms d) (sym x.0)
       (subst (λ us. AlikeOutside p left (Invokes ByLibrary (Native CoroutineClose) us) fs ms d) (sym x.3)
-      (co_laws.closes ByLibrary x.1 x.2 ws co fs ms ds d o stands)))
+      (co_laws.calls_close x.1 x.2 ws co fs ms ds d o stands)))
       (closing ByLibrary b vs)
-  function_goes ws (Host i) vs e co fs ms ds d o stands =
+  function_goes ws raises (Host i) vs e co fs ms ds d o stands =
       charged_goes (Host i) vs ws co fs ms ds d (record { script = λ s w. refl; code = λ s w. refl }) refl o stands
-  function_goes ws (Wrap i) vs e co fs ms ds d o stands = co_laws.wraps ByLibrary i vs ws co fs ms ds d o stands
-  function_goes ws Nil vs e co fs ms ds d o stands = absurd (false_true e)
+  function_goes ws raises (Wrap i) vs e co fs ms ds d o stands = co_laws.wraps ByLibrary i vs ws raises co fs ms ds d o stands
+  function_goes ws raises Nil vs e co fs ms ds d o stands = absurd (false_true e)
     where
       false_true : false ≡ true → ⊥
       false_true e = cc
-  function_goes ws (Boolean b) vs e co fs ms ds d o stands = absurd (false_true e)
+  function_goes ws raises (Boolean b) vs e co fs ms ds d o stands = absurd (false_true e)
     where
       false_true : false ≡ true → ⊥
       false_true e = cc
-  function_goes ws (Number z) vs e co fs ms ds d o stands = absurd (false_true e)
+  function_goes ws raises (Number z) vs e co fs ms ds d o stands = absurd (false_true e)
     where
       false_true : false ≡ true → ⊥
       false_true e = cc
-  function_goes ws (Text bs) vs e co fs ms ds d o stands = absurd (false_true e)
+  function_goes ws raises (Text bs) vs e co fs ms ds d o stands = absurd (false_true e)
     where
       false_true : false ≡ true → ⊥
       false_true e = cc
-  function_goes ws (Table t) vs e co fs ms ds d o stands = absurd (false_true e)
+  function_goes ws raises (Table t) vs e co fs ms ds d o stands = absurd (false_true e)
     where
       false_true : false ≡ true → ⊥
       false_true e = cc
-  function_goes ws (Thread i) vs e co fs ms ds d o stands = absurd (false_true e)
+  function_goes ws raises (Thread i) vs e co fs ms ds d o stands = absurd (false_true e)
     where
       false_true : false ≡ true → ⊥
       false_true e = cc
 
   -- what is no function may say what is called in its place, or is refused
-  other_goes : (by : Caller) (ws : List Wait) → RaisesGo ws → (f : Value) (vs : List Value) → is_function f ≡ false → Open (Called by f vs)
+  other_goes : (by : Caller) (ws : List Wait) → RaisesGo p left ws → (f : Value) (vs : List Value) → is_function f ≡ false → Open (Called by f vs)
       → ((s : Store) (w : Waits) (r : Option Reply) → decision.called by f vs r w s ≡ decision.by_callee (callee_of s f) vs w s)
       → OutsideGo p left (Invokes by f vs) ws
   other_goes by ws raises f vs no_function keeps_open is co fs ms ds d o stands =
@@ -269,7 +284,7 @@ module _ (p : Setting) (left : ℕ) (co_laws : Coroutines p left) (fewer_calls :
       let a = decision.now (Calls ByLibrary c.0 ((f ∷ []) ++ vs)) d.script.waits (store_s d) in
       asks_same (Called by f vs) a co ws fs ms ds d (called_is by f vs _ d.script.waits (store_s d) ∙ is (store_s d) d.script.waits _
       ∙ ap (λ x. decision.by_callee x vs d.script.waits (store_s d)) c.2) keeps_open o o.running
-      (function_goes ws c.0 ((f ∷ []) ++ vs) c.1 co fs ms ds (decides d a) (ok_kept a refl refl refl o) stands)
+      (function_goes ws raises c.0 ((f ∷ []) ++ vs) c.1 co fs ms ds (decides d a) (ok_kept a refl refl refl o) stands)
       _ _ refl refl)
       (λ c.
       let a = decision.fails c.0 d.script.waits (store_s d) in
@@ -280,7 +295,7 @@ module _ (p : Setting) (left : ℕ) (co_laws : Coroutines p left) (fewer_calls :
       (callee_cases (store_s d) f no_function)
 
   -- the library calls a value
-  library_calls : (ws : List Wait) → RaisesGo ws → LibraryGoes ws
+  library_calls : (ws : List Wait) → RaisesGo p left ws → LibraryGoes ws
   unfolding is_function
   library_calls ws raises Nil vs = other_goes ByLibrary ws raises Nil vs refl (record { script = λ s w. refl; code = λ s w. refl }) (λ s w r. refl)
   library_calls ws raises (Boolean b) vs = other_goes ByLibrary ws raises (Boolean b) vs refl (record { script = λ s w. refl; code = λ s w. refl })
@@ -291,7 +306,7 @@ module _ (p : Setting) (left : ℕ) (co_laws : Coroutines p left) (fewer_calls :
   library_calls ws raises (Table t) vs = other_goes ByLibrary ws raises (Table t) vs refl (record { script = λ s w. refl; code = λ s w. refl }) (λ s w r. refl)
   library_calls ws raises (Thread i) vs = other_goes ByLibrary ws raises (Thread i) vs refl (record { script = λ s w. refl; code = λ s w. refl })
       (λ s w r. refl)
-  library_calls ws raises f vs = function_goes ws f vs refl
+  library_calls ws raises f vs = function_goes ws raises f vs refl
 
   -- ---- what waits innermost is no function: it is asked
 
@@ -328,14 +343,14 @@ module _ (p : Setting) (left : ℕ) (co_laws : Coroutines p left) (fewer_calls :
   over_with d x = decision.now x (leave d.script.waits (store_s d)) (store_s d)
 
   -- the handler's error is caught with the value
-  raises_handler : (ws : List Wait) → HandsGo ws → RaisesGo (Handles ∷ ws)
+  raises_handler : (ws : List Wait) → HandsGo p left ws → RaisesGo p left (Handles ∷ ws)
   raises_handler ws hands v co fs ms ds d o stands =
       let a = over_with d (Gives (Boolean false ∷ v ∷ [])) in
       passed_here Handles ws v a co fs ms ds d refl refl o refl o.running
       (hands (Boolean false ∷ v ∷ []) co fs ms ds (decides d a) (ok_less a refl refl o) (stands_below refl stands))
 
   -- whatever waits innermost, an error goes on where it does below
-  raises_more : (ws : List Wait) → HandsGo ws → RaisesGo ws → (w : Wait) → RaisesGo (w ∷ ws)
+  raises_more : (ws : List Wait) → HandsGo p left ws → RaisesGo p left ws → (w : Wait) → RaisesGo p left (w ∷ ws)
   raises_more ws hands raises (Runs c) v co _ _ _ d o (function {a = act} {fs = fs} {f = fr} {ms = ms} {ds = ds} go stands) =
       source_goes p (ap (λ x. source_calls.raise (source_calls.is_function x) v (act ∷ fs) d.script) (innermost_s o))
       (target_goes p (ap (λ x. machine_calls.raise p.chunk (machine_calls.is_function x) v (fr ∷ ms) d.code) (innermost_m o))
@@ -370,7 +385,7 @@ module _ (p : Setting) (left : ℕ) (co_laws : Coroutines p left) (fewer_calls :
   -- ---- what the library answers
 
   -- an environment is given, or replaced
-  replaced_goes : (r : Option ℕ) (t : TableRef) (ws : List Wait) → HandsGo ws → RaisesGo ws
+  replaced_goes : (r : Option ℕ) (t : TableRef) (ws : List Wait) → HandsGo p left ws → RaisesGo p left ws
       → (co : ℕ) (fs : List source.Activation) (ms : List machine.Frame) (ds : List Desc) (d : Dyn) → Ok p left co ws ds d
       → Stands p left co ws fs ms ds → (s : source.State) (m : machine.State)
       → source_steps.step p.texts s ≡ source_calls.decided (decision.replace_environment r t d.script.waits (store_s d)) fs d.script
@@ -384,7 +399,7 @@ module _ (p : Setting) (left : ℕ) (co_laws : Coroutines p left) (fewer_calls :
       decided_same p a co left fs ms d o.running o.running o.base (hands (Closure c ∷ []) co fs ms ds (decides d a) (ok_kept a refl refl refl o) stands) s m e f
 
   -- whatever it is
-  answer_goes : (x : LibAnswer) (ws : List Wait) → HandsGo ws → RaisesGo ws
+  answer_goes : (x : LibAnswer) (ws : List Wait) → HandsGo p left ws → RaisesGo p left ws
       → (co : ℕ) (fs : List source.Activation) (ms : List machine.Frame) (ds : List Desc) (d : Dyn) → Fair p left co x d → Ok p left co ws ds d
       → Stands p left co ws fs ms ds → (s : source.State) (m : machine.State)
       → source_steps.step p.texts s ≡ source_calls.decided (by_library x d.script.waits (store_s d)) fs d.script
@@ -413,7 +428,10 @@ module _ (p : Setting) (left : ℕ) (co_laws : Coroutines p left) (fewer_calls :
       decided_same p a co left fs ms d o.running o.running o.base
       (library_calls (w ∷ ws) (raises_more ws hands raises w) g vs co fs ms ds (decides d a) (ok_more a w refl refl o)
       (other (fair.waits g vs w refl) stands)) s m e f
-  answer_goes (Moves x) ws hands raises co fs ms ds d fair o stands s m e f = co_laws.moves x co ws fs ms ds d o stands s m e f
+  answer_goes (Moves (Resume i args)) ws hands raises co fs ms ds d fair o stands s m e f =
+      co_laws.resumes i args ws hands raises co fs ms ds d o stands s m e f
+  answer_goes (Moves (Yield vs)) ws hands raises co fs ms ds d fair o stands s m e f = co_laws.yields vs ws raises co fs ms ds d o stands s m e f
+  answer_goes (Moves (Close i)) ws hands raises co fs ms ds d fair o stands s m e f = absurd (fair.closes i refl)
   answer_goes (OnEnvironment (Reads x)) ws hands raises co fs ms ds d fair o stands s m e f =
       let a = by_library (OnEnvironment (Reads x)) d.script.waits (store_s d) in
       decided_same p a co left fs ms d o.running o.running o.base (hands _ co fs ms ds (decides d a) (ok_kept a refl refl refl o) stands) s m e f
@@ -421,7 +439,7 @@ module _ (p : Setting) (left : ℕ) (co_laws : Coroutines p left) (fewer_calls :
       replaced_goes (decision.function_meant x (waiting d.script.waits (here (store_s d)))) t ws hands raises co fs ms ds d o stands s m e f
 
   -- values go on where they do below
-  hands_more : (ws : List Wait) → HandsGo ws → RaisesGo ws → (w : Wait) → HandsGo (w ∷ ws)
+  hands_more : (ws : List Wait) → HandsGo p left ws → RaisesGo p left ws → (w : Wait) → HandsGo p left (w ∷ ws)
   hands_more ws hands raises (Runs c) vs co _ _ _ d o (function {a = act} {fs = fs} {f = fr} {ms = ms} {ds = ds} go stands) =
       source_goes p (ap (λ x. source_calls.hand (source_calls.is_function x) vs (act ∷ fs) d.script) (innermost_s o))
       (target_goes p (ap (λ x. machine_calls.hand p.chunk (machine_calls.is_function x) vs (fr ∷ ms) d.code) (innermost_m o))
@@ -474,7 +492,7 @@ module _ (p : Setting) (left : ℕ) (co_laws : Coroutines p left) (fewer_calls :
   nothing_m : {co : ℕ} {ds : List Desc} {d : Dyn} → Ok p left co [] ds d → kept.innermost d.code.waits (store_m d) ≡ None
   nothing_m {d = d} o = ap (λ v. kept.innermost v (store_m d)) (sym o.base.waits) ∙ ap (λ s. kept.innermost d.script.waits s) (sym o.base.store) ∙ nothing_s o
 
-  hands_last : HandsGo []
+  hands_last : HandsGo p left []
   hands_last vs co fs ms ds d o stands = by_running (store_s d).running refl
     where
       by_running : (r : Option ℕ) → (store_s d).running ≡ r → AlikeOutside p left (Hands vs) fs ms d
@@ -489,7 +507,7 @@ module _ (p : Setting) (left : ℕ) (co_laws : Coroutines p left) (fewer_calls :
           (ap (λ x. source_calls.hand (source_calls.is_function x) vs fs d.script) (nothing_s o))
           (ap (λ x. machine_calls.hand p.chunk (machine_calls.is_function x) vs ms d.code) (nothing_m o))
 
-  raises_last : RaisesGo []
+  raises_last : RaisesGo p left []
   raises_last v co fs ms ds d o stands = by_running (store_s d).running refl
     where
       by_running : (r : Option ℕ) → (store_s d).running ≡ r → AlikeOutside p left (Raises v) fs ms d
@@ -505,7 +523,7 @@ module _ (p : Setting) (left : ℕ) (co_laws : Coroutines p left) (fewer_calls :
           (ap (λ x. machine_calls.raise p.chunk (machine_calls.is_function x) v ms d.code) (nothing_m o))
 
   -- values and errors go on, whatever waits
-  all_go : (ws : List Wait) → HandsGo ws × RaisesGo ws
+  all_go : (ws : List Wait) → HandsGo p left ws × RaisesGo p left ws
   all_go [] = (hands_last, raises_last)
   all_go (w ∷ ws) = let g = all_go ws in (hands_more ws g.0 g.1 w, raises_more ws g.0 g.1 w)
 
@@ -564,14 +582,14 @@ module _ (p : Setting) (left : ℕ) (co_laws : Coroutines p left) (fewer_calls :
   script_calls : (f : Value) (vs : List Value) (ws : List Wait) → OutsideGo p left (Invokes ByScript f vs) ws
   unfolding is_function
   script_calls (Closure c) vs ws co fs ms ds d o stands = closure_goes ByScript c vs ws co fs ms ds d o stands
-  script_calls (Wrap i) vs ws co fs ms ds d o stands = co_laws.wraps ByScript i vs ws co fs ms ds d o stands
+  script_calls (Wrap i) vs ws co fs ms ds d o stands = co_laws.wraps ByScript i vs ws (all_go ws).1 co fs ms ds d o stands
   script_calls (Native b) vs ws co fs ms ds d o stands =
       ⊎_elim
-      (λ keeps_open. answer_goes (lib b vs (store_s d)) ws (all_go ws).0 (all_go ws).1 co fs ms ds d (co_laws.library b vs co ws ds d o) o stands _ _
-      (script_row_s (Native b) vs fs d keeps_open) (script_row_m (Native b) vs ms d keeps_open o))
+      (λ x. answer_goes (lib b vs (store_s d)) ws (all_go ws).0 (all_go ws).1 co fs ms ds d (co_laws.library b vs x.1 co ws ds d o) o stands _ _
+      (script_row_s (Native b) vs fs d x.0) (script_row_m (Native b) vs ms d x.0 o))
       (λ x. subst (λ b. AlikeOutside p left (Invokes ByScript (Native b) vs) fs ms d) (sym x.0)
       (subst (λ us. AlikeOutside p left (Invokes ByScript (Native CoroutineClose) us) fs ms d) (sym x.3)
-      (co_laws.closes ByScript x.1 x.2 ws co fs ms ds d o stands)))
+      (co_laws.closes x.1 x.2 ws (all_go ws).0 (all_go ws).1 co fs ms ds d o stands)))
       (closing ByScript b vs)
   script_calls (Host i) vs ws co fs ms ds d o stands =
       let keeps_open : Open (Called ByScript (Host i) vs) = record { script = λ s w. refl; code = λ s w. refl } in

@@ -47,7 +47,7 @@ index_along_keeps (suc links) s key asked base =
     index_asked_keeps s (index_along links s key) (index_along_keeps links s key) asked base key (indexed_table s base)
 
 -- a write changes a table alone
-table_keeps : (s : Store) (t : TableRef) (x : TableOf) → Unmoved s (with_table s t x)
+pub table_keeps : (s : Store) (t : TableRef) (x : TableOf) → Unmoved s (with_table s t x)
 unfolding with_table
 table_keeps s (Shared i) x = record { running = refl; coroutines = refl }
 table_keeps s (Own i) x = record { running = refl; coroutines = refl }

@@ -74,6 +74,7 @@ ok_leaves {p} {turns} {co} {w} {ws} {ds} {ds'} {d} rest o = record {
     coroutines = refl;
     waits = λ j ne. waiting_others d.script.waits
         (store_s d) co j o.running ne;
+    room = omega (arith, length-set d.script.waits (here (store_s d)) (rest_of (waiting d.script.waits (here (store_s d)))));
     script = refl;
     code = refl;
   }) o.others;

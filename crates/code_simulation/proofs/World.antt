@@ -73,6 +73,7 @@ ok_keep {p} {turns} {co} {ws} {roots} {d} d' base k running coroutines waits scr
     coroutines = coroutines;
     waits = λ j ne. ap
         (λ w. waiting w j) waits;
+    room = let e = ap length waits in omega (arith, e);
     script = script;
     code = code;
   }) o.others;

@@ -60,6 +60,7 @@ pub record Around (co : ℕ) (d d' : Dyn) : Type 0 where
   pub running : (store_s d').running ≡ (store_s d).running
   pub coroutines : (store_s d').coroutines ≡ (store_s d).coroutines
   pub waits : (j : ℕ) → j ≢ co → waiting d'.script.waits j ≡ waiting d.script.waits j
+  pub room : length d.script.waits ≤ length d'.script.waits
   pub script : d'.script.elsewhere ≡ d.script.elsewhere
   pub code : d'.code.elsewhere ≡ d.code.elsewhere
 
