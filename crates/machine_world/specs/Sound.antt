@@ -12,6 +12,7 @@ use Rattle.luau_tables.specs.Worlds.{IsWorld, MayUseIn}
 use Rattle.luau_tables.specs.declared.globals.LibWorld.{LibWorld}
 use Rattle.call_frames.specs.declared.frame.Frame.{Frame}
 use Rattle.call_frames.specs.declared.frame.OpenCell.{OpenCell}
+use Rattle.call_frames.specs.declared.frame.ReturnKind.{ReturnKind}
 use Rattle.call_frames.specs.declared.frame.ReturnKind.TheVariants.{Idle}
 use Rattle.call_frames.specs.Stacks.{StackView}
 use Rattle.call_frames.specs.Cells.{innermost}
@@ -98,3 +99,7 @@ HasList s count from =
 -- a Luau function runs, and waits for no call
 abbrev pub GoesOn : StackView → Type 0
 GoesOn s = IsSomeAnd (innermost s) (λ f. IsLuau f × (f.kind ≡ Idle))
+
+-- a Luau function runs, and waits for a call so
+abbrev pub WaitsFor : StackView → ReturnKind → Type 0
+WaitsFor s kind = IsSomeAnd (innermost s) (λ f. IsLuau f × (f.kind ≡ kind))
