@@ -1,7 +1,10 @@
 -- The function that runs, as the state shows it.
-use Rattle.std.proofs.Common.{◌≡◌, ℕ, List, [], ◌∷◌, reverse, Option, Some, None, IsSomeAnd, refl, sym, ◌∙◌, ap, subst}
+use Rattle.std.proofs.Common.{◌≡◌, ℕ, ℤ, pos, negsuc, ◌+◌, ◌+ℤ◌, ◌/◌, ◌^◌, nat_eq, Bool, true, false, cond, List, [], ◌∷◌, reverse, Option, Some, None, IsSomeAnd, refl, sym, ◌∙◌, ap, subst}
 use Rattle.std.specs.Option.{option_map_or}
+use Rattle.value_model.specs.Parts.{meant}
+use Rattle.value_model.specs.Values as m
 use Rattle.value_model.specs.declared.event.Reply.{Reply}
+use Rattle.value_model.specs.declared.value.Value.{Value}
 use Rattle.value_arena.specs.declared.closure.Closure.{Closure}
 use Rattle.value_arena.specs.Arenas.{objects_of}
 use Rattle.bounded_runs.specs.Runs.{Goes, Charges}
@@ -13,13 +16,24 @@ use Rattle.call_frames.specs.Stacks.{StackView}
 use Rattle.call_frames.specs.Cells.{innermost, outer}
 use Rattle.machine_meaning.specs.States as machine
 use Rattle.machine_meaning.specs.States.{Run, Focus, Inside, State}
-use Rattle.machine_meaning.specs.Moves.{Row, Step, inside, on, go}
+use Rattle.machine_meaning.specs.Moves.{Row, inside, go, charge, give, jump, jump_back, branch}
+use Rattle.machine_meaning.specs.Effects.{decided, with_constant, agrees, jumps_with}
+use Rattle.machine_meaning.specs.Constants.{known}
+use Rattle.op_words.specs.Chunks.{ChunkOf}
+use Rattle.value_model.specs.Values.{is_true}
+use Rattle.value_model.specs.Tables as model
+use Rattle.value_model.specs.declared.value.Value.TheVariants as value
+use Rattle.value_arena.specs.Tables as kept
+use Rattle.luau_tables.specs.Worlds.{IsWorld, MayUseIn}
+use Rattle.luau_tables.proofs.Sameness.{same_kept}
+use Rattle.luau_tables.proofs.OwnTables.{own_value}
 use Rattle.machine_world.specs.declared.code.Code.{Code}
 use Rattle.machine_world.specs.Functions.{waiting, running, cells_of, purpose_of}
-use Rattle.machine_world.specs.Parts.{world_with, state_with, part, changed, changed_in, placed, Becomes, read_in, read_of}
+use Rattle.machine_world.specs.Parts.{world_with, state_with, part, changed, placed, Becomes, read_in, read_of}
 use Rattle.machine_world.specs.Rows.{row_in, Makes, MakesTo, MakesCharged, place_here, proto_here}
-use Rattle.machine_world.specs.Sound.{IsLuau, Runs, GoesOn, WaitsFor}
+use Rattle.machine_world.specs.Sound.{IsLuau, Runs, GoesOn, WaitsFor, Ahead}
 use Rattle.machine_world.proofs.Frames.{inner, of_frame, functions_split}
+use Rattle.machine_world.proofs.Going.{runs_on}
 
 -- the function that runs, those below it, and what all share
 pub record Here (w : LibWorld) (code : Code) (s : StackView) (replies : List Reply) : Type 0 where
@@ -104,3 +118,103 @@ row_charges w w' code s s' r x change runs becomes same = λ replies.
 pub goes_on : (next : ℕ) (f : machine.Frame) (fs : List machine.Frame) (v : machine.World) → f.purpose ≡ machine.Idle →
     go next f fs v ≡ Goes [] (changed (placed next) (record { focus = Run; functions = f ∷ fs; world = v }))
 goes_on next f fs v e = ap (λ p. Goes [] (record { focus = Run; functions = record f { place = next; purpose = p } ∷ fs; world = v })) (sym e)
+
+-- a row that goes on at a place
+pub row_passes : (w : LibWorld) (code code' : Code) (s s' : StackView) (r : Row) (next : ℕ) → GoesOn s → code' ≡ code → Becomes (changed (placed next)) w code s w s' →
+    ((replies : List Reply) (h : Here w code s replies) → r h.frame h.others h.world ≡ go next h.frame h.others h.world) → Makes r w code s w s'
+row_passes w code code' s s' r next goes e becomes same =
+    row_leads w w code s s' r Run (changed (placed next)) (runs_on s goes) becomes
+    (λ replies h. same replies h ∙ goes_on next h.frame h.others h.world (idle_here h goes))
+
+charged_on : (next : ℕ) (f : machine.Frame) (fs : List machine.Frame) (v : machine.World) → f.purpose ≡ machine.Idle →
+    charge next f fs v ≡ Charges (changed (placed next) (record { focus = Run; functions = f ∷ fs; world = v }))
+charged_on next f fs v e = ap (λ p. Charges (record { focus = Run; functions = record f { place = next; purpose = p } ∷ fs; world = v })) (sym e)
+
+pub row_passes_charged : (w : LibWorld) (code : Code) (s s' : StackView) (r : Row) (next : ℕ) → GoesOn s → Becomes (changed (placed next)) w code s w s' →
+    ((replies : List Reply) (h : Here w code s replies) → r h.frame h.others h.world ≡ charge next h.frame h.others h.world) → MakesCharged r w code s Run w s'
+row_passes_charged w code s s' r next goes becomes same =
+    row_charges w w code s s' r Run (changed (placed next)) (runs_on s goes) becomes
+    (λ replies h. same replies h ∙ charged_on next h.frame h.others h.world (idle_here h goes))
+
+-- ---- jumps
+
+nat_of : ℤ → ℕ
+nat_of (pos n) = n
+nat_of (negsuc n) = 0
+
+place_of : (p t : ℕ) (by : ℤ) → pos t ≡ pos (p + 1) +ℤ by → (k : ℕ) → by ≡ pos k → t ≡ p + 1 + k
+unfolding nat_of
+place_of p t by e k is = ap nat_of (e ∙ ap (λ z. pos (p + 1) +ℤ z) is)
+
+-- forward
+pub jumps : (p t : ℕ) (by : ℤ) → Ahead p by → pos t ≡ pos (p + 1) +ℤ by → (f : machine.Frame) (fs : List machine.Frame) (v : machine.World) →
+    jump by p f fs v ≡ go t f fs v
+jumps p t by (k, is, fits) e f fs v =
+    ap (λ d. jump d p f fs v) is ∙ ap (λ n. go n f fs v) (sym (place_of p t by e k is))
+
+-- or not
+pub branches : (b : Bool) (t next : ℕ) (by : ℤ) (f : machine.Frame) (fs : List machine.Frame) (v : machine.World) → Ahead f.place by →
+    pos t ≡ pos (f.place + 1) +ℤ by → branch b by next f fs v ≡ go (cond b t next) f fs v
+branches true t next by f fs v ahead e = jumps f.place t by ahead e f fs v
+branches false t next by f fs v ahead e = refl
+
+-- back, once a turn was charged
+pub jumps_back : (t : ℕ) (to : ℤ) → pos t ≡ to → (f : machine.Frame) (fs : List machine.Frame) (v : machine.World) → jump_back to f fs v ≡ charge t f fs v
+jumps_back t to e f fs v = sym (ap (λ z. jump_back z f fs v) e)
+
+-- ---- one of two values
+
+pub decides : (b : Bool) (v u : m.Value) (to next : ℕ) (f : machine.Frame) (fs : List machine.Frame) (x : machine.World) →
+    decided b v u to next f fs x ≡ give to (cond b v u) next f fs x
+decides true v u to next f fs x = refl
+decides false v u to next f fs x = refl
+
+pub meant_cond : (texts : List m.Bytes) (b : Bool) (v u : Value) → meant texts (cond b v u) ≡ cond b (meant texts v) (meant texts u)
+meant_cond texts true v u = refl
+meant_cond texts false v u = refl
+
+pub usable_cond : (P : Value → Type 0) (b : Bool) (v u : Value) → P v → P u → P (cond b v u)
+usable_cond P true v u h k = h
+usable_cond P false v u h k = k
+
+-- such a value, where the condition is read and both are
+pub decides_on : (texts : List m.Bytes) (b : Bool) (a first second : m.Value) (kept first_kept second_kept chosen : Value) (to next : ℕ) (f : machine.Frame) (fs : List machine.Frame) (x : machine.World) → meant texts kept ≡ a → is_true (meant texts kept) ≡ b → meant texts first_kept ≡ first → meant texts second_kept ≡ second → chosen ≡ cond b first_kept second_kept → decided (is_true a) first second to next f fs x ≡ give to (meant texts chosen) next f fs x
+decides_on texts b a first second kept first_kept second_kept chosen to next f fs x e truth is_yes is_no is =
+    ap (λ c. decided c first second to next f fs x) (ap is_true (sym e) ∙ truth)
+    ∙ decides b first second to next f fs x
+    ∙ ap (λ v. give to v next f fs x) (sym (ap (meant texts) is ∙ meant_cond texts b first_kept second_kept ∙ ap (λ v. cond b v (meant texts second_kept)) is_yes ∙ ap (λ v. cond b first v) is_no))
+
+pub number_is : (texts : List m.Bytes) (z : ℤ) → meant texts (value.Num z) ≡ m.Number z
+unfolding meant
+number_is texts z = refl
+
+-- a row with a constant whose value is known
+pub with_known : {w : LibWorld} {code : Code} {s : StackView} {replies : List Reply} (chunk : ChunkOf) (h : Here w code s replies) (k : ℤ) (v : m.Value) (row : m.Value → Row) → known chunk (proto_here w code s) k ≡ Some v → with_constant (known chunk h.frame.proto k) row h.frame h.others h.world ≡ row v h.frame h.others h.world
+with_known chunk h k v row is = ap (λ q. with_constant q row h.frame h.others h.world) (ap (λ p. known chunk p k) h.proto ∙ is)
+
+-- rows that jump
+
+pub row_jumps : (w : LibWorld) (code : Code) (s s' : StackView) (r : Row) (by : ℤ) (t : ℕ) → GoesOn s → Ahead (place_here s) by →
+    pos t ≡ pos (place_here s + 1) +ℤ by → Becomes (changed (placed t)) w code s w s' →
+    ((replies : List Reply) (h : Here w code s replies) → r h.frame h.others h.world ≡ jump by h.frame.place h.frame h.others h.world) → Makes r w code s w s'
+row_jumps w code s s' r by t goes ahead e becomes same =
+    row_passes w code code s s' r t goes refl becomes
+    (λ replies h. same replies h ∙ ap (λ p. jump by p h.frame h.others h.world) h.place ∙ jumps (place_here s) t by ahead e h.frame h.others h.world)
+
+pub row_branches : (w : LibWorld) (code : Code) (s s' : StackView) (b : Bool) (by : ℤ) (t next to : ℕ) → to ≡ cond b t next → GoesOn s → Ahead (place_here s) by →
+    pos t ≡ pos (place_here s + 1) +ℤ by → Becomes (changed (placed to)) w code s w s' → Makes (branch b by next) w code s w s'
+row_branches w code s s' b by t next to is goes ahead e becomes =
+    row_passes w code code s s' (branch b by next) to goes refl becomes
+    (λ replies h. branches b t next by h.frame h.others h.world (subst (λ p. Ahead p by) (sym h.place) ahead) (e ∙ ap (λ p. pos (p + 1) +ℤ by) (sym h.place))
+    ∙ ap (λ n. go n h.frame h.others h.world) (sym is))
+
+-- a comparison with a constant
+pub compares : (w : LibWorld) (v u : Value) (same : Bool) → IsWorld w → MayUseIn w v → MayUseIn w u → kept.same v u ≡ same → model.same (meant w.names v) (meant w.names u) ≡ same
+compares w v u b is may may_u e =
+    same_kept w.names w.owner is.own.interned.distinct v u (own_value w.names w.globals w.arena w.owner is.own v may) (own_value w.names w.globals w.arena w.owner is.own u may_u) ∙ e
+
+pub compares_on : (w : LibWorld) (test : ℕ) (a : m.Value) (v u : Value) (holds : Bool) (by : ℤ) (next : ℕ) (f : machine.Frame) (fs : List machine.Frame) (x : machine.World) → meant w.names v ≡ a → IsWorld w → MayUseIn w v → MayUseIn w u → holds ≡ agrees (nat_eq (test / 2 ^ 31) 0) (kept.same v u) → jumps_with (test / 2 ^ 31) a (meant w.names u) by next f fs x ≡ branch holds by next f fs x
+compares_on w test a v u holds by next f fs x e is may may_u h =
+    ap (λ a. jumps_with (test / 2 ^ 31) a (meant w.names u) by next f fs x) (sym e)
+    ∙ ap (λ b. branch (agrees (nat_eq (test / 2 ^ 31) 0) b) by next f fs x) (compares w v u (kept.same v u) is may may_u refl)
+    ∙ ap (λ b. branch b by next f fs x) (sym h)

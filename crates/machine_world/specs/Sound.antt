@@ -1,5 +1,5 @@
 -- What must hold of a script's stack beside its world.
-use Rattle.std.specs.Prelude.{◌≡◌, ℕ, zero, suc, ◌+◌, ◌<◌, ◌≤◌, IsSomeAnd, IfSome, true, List, [], ◌∷◌, length, None}
+use Rattle.std.specs.Prelude.{◌≡◌, ℕ, zero, suc, ℤ, pos, negsuc, ◌+◌, ◌<◌, ◌≤◌, ◌^◌, IsSomeAnd, IfSome, true, List, [], ◌∷◌, length, None}
 use Rattle.std.specs.List.{AllByRecursion}
 use Rattle.value_model.specs.Owners.{wide}
 use Rattle.value_model.specs.declared.ids.CellId.{CellId}
@@ -103,3 +103,13 @@ GoesOn s = IsSomeAnd (innermost s) (λ f. IsLuau f × (f.kind ≡ Idle))
 -- a Luau function runs, and waits for a call so
 abbrev pub WaitsFor : StackView → ReturnKind → Type 0
 WaitsFor s kind = IsSomeAnd (innermost s) (λ f. IsLuau f × (f.kind ≡ kind))
+
+-- ---- places
+
+-- so many words behind the word at a place there may be an instruction
+abbrev pub Ahead : (place : ℕ) → (by : ℤ) → Type 0
+Ahead place by = (k : ℕ) × (by ≡ pos k) × (place + 1 + k < 2 ^ 64)
+
+-- so many words before the one behind a place there is a word
+abbrev pub Back : (place : ℕ) → (by : ℤ) → Type 0
+Back place by = (k : ℕ) × (by ≡ negsuc k) × (k ≤ place)
