@@ -22,7 +22,7 @@ use Rattle.machine_meaning.specs.States as machine
 use Rattle.machine_meaning.specs.States.{Register, Val, Registers, Focus, State}
 use Rattle.machine_world.specs.declared.code.Code.{Code}
 use Rattle.machine_world.specs.Functions.{register, window, function_of, waiting, running, functions_of, cells_of, wait_of, wait_in, purpose_of}
-use Rattle.machine_world.specs.Parts.{world_with, state_with, part, waits_in, changed_in, changed, placed, waits}
+use Rattle.machine_world.specs.Parts.{world_with, state_with, part, waits_in, changed_in, changed, placed, awake, waits}
 use Rattle.machine_world.specs.Sound.{IsOwnOf, first, later, AreOwn, IsFunctionOf, IsLuau, Runs, GoesOn, IsMachine}
 use Rattle.machine_world.proofs.Frames.{inner, of_frame, functions_split}
 use Rattle.machine_world.proofs.Written.{all_set}
@@ -161,3 +161,30 @@ goes_placed s place runs h =
     let now : innermost s' ≡ Some g = last_got s'.frames (outer s) g (replaced s.frames f g i.is) in
     subst GoesOn (with_innermost_is (λ f. record f { place = place }) s f i.is)
     (subst (λ q. IsSomeAnd q (λ f. IsLuau f × (f.kind ≡ Idle))) (sym now) here)
+
+-- it waits for no call any more
+pub part_awake : (w : LibWorld) (code : Code) (s : StackView) (x : Focus) (replies : List Reply) → Runs s →
+    part w code (opens.waiting Idle s) x replies ≡ changed awake (part w code s x replies)
+unfolding part
+part_awake w code s x replies runs =
+    let i = inner s runs in
+    let f = i.frame in
+    let cs : List Closure = (objects_of w.arena w.owner).closures in
+    ap (λ (t : StackView). part w code t x replies) (sym (with_innermost_is (λ f. record f { kind = Idle }) s f i.is))
+    ∙ part_framed w code s f i.closure f.place s.top Idle x replies i.is i.of
+    ∙ sym (ap (λ fs. changed_in awake x fs (world_with w code s.frames replies (cells_of w.names w.owner s w.arena))) (functions_split w.names cs s f i.closure i.is i.of))
+
+pub keeps_awake : (w : LibWorld) (s : StackView) → Runs s → IsMachine w s → IsMachine w (opens.waiting Idle s)
+keeps_awake w s runs is =
+    let i = inner s runs in
+    subst (IsMachine w) (with_innermost_is (λ f. record f { kind = Idle }) s i.frame i.is) (keeps_framed w s i.frame i.frame.place s.top Idle i.is is)
+
+pub goes_awake : (s : StackView) → Runs s → GoesOn (opens.waiting Idle s)
+goes_awake s runs =
+    let i = inner s runs in
+    let f = i.frame in
+    let g : Frame = record f { kind = Idle } in
+    let s' : StackView = framed s f f.place Idle s.top in
+    let now : innermost s' ≡ Some g = last_got s'.frames (outer s) g (replaced s.frames f g i.is) in
+    subst GoesOn (with_innermost_is (λ f. record f { kind = Idle }) s f i.is)
+    (subst (λ q. IsSomeAnd q (λ f. IsLuau f × (f.kind ≡ Idle))) (sym now) (of_frame s IsLuau f i.is runs, refl))

@@ -11,3 +11,4 @@ pub mod Changing
 pub mod Delivering
 pub mod Going
 pub mod Listing
+pub mod Here

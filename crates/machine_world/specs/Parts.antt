@@ -121,6 +121,10 @@ close from i =
 abbrev pub placed : ℕ → Inside → Inside
 placed place i = record i { frame = record i.frame { place = place } }
 
+-- it waits for no call
+abbrev pub awake : Inside → Inside
+awake i = record i { frame = record i.frame { purpose = machine.Idle } }
+
 -- values into the registers from one on, up to the top
 abbrev pub delivered : ℕ → List m.Value → Inside → Inside
 delivered to vs i = let j = set_all to vs i in record j { frame = ended (to + length vs) j.frame }

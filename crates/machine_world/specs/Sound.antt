@@ -1,5 +1,5 @@
 -- What must hold of a script's stack beside its world.
-use Rattle.std.specs.Prelude.{◌≡◌, ℕ, zero, suc, ◌+◌, ◌<◌, ◌≤◌, IsSomeAnd, IfSome, true, List, [], ◌∷◌, length, None}
+use Rattle.std.specs.Prelude.{◌≡◌, ℕ, zero, suc, ℤ, pos, negsuc, ◌+◌, ◌<◌, ◌≤◌, ◌^◌, IsSomeAnd, IfSome, true, List, [], ◌∷◌, length, None}
 use Rattle.std.specs.List.{AllByRecursion}
 use Rattle.value_model.specs.Owners.{wide}
 use Rattle.value_model.specs.declared.ids.CellId.{CellId}
@@ -12,6 +12,7 @@ use Rattle.luau_tables.specs.Worlds.{IsWorld, MayUseIn}
 use Rattle.luau_tables.specs.declared.globals.LibWorld.{LibWorld}
 use Rattle.call_frames.specs.declared.frame.Frame.{Frame}
 use Rattle.call_frames.specs.declared.frame.OpenCell.{OpenCell}
+use Rattle.call_frames.specs.declared.frame.ReturnKind.{ReturnKind}
 use Rattle.call_frames.specs.declared.frame.ReturnKind.TheVariants.{Idle}
 use Rattle.call_frames.specs.Stacks.{StackView}
 use Rattle.call_frames.specs.Cells.{innermost}
@@ -98,3 +99,17 @@ HasList s count from =
 -- a Luau function runs, and waits for no call
 abbrev pub GoesOn : StackView → Type 0
 GoesOn s = IsSomeAnd (innermost s) (λ f. IsLuau f × (f.kind ≡ Idle))
+
+-- a Luau function runs, and waits for a call so
+abbrev pub WaitsFor : StackView → ReturnKind → Type 0
+WaitsFor s kind = IsSomeAnd (innermost s) (λ f. IsLuau f × (f.kind ≡ kind))
+
+-- ---- places
+
+-- so many words behind the word at a place there may be an instruction
+abbrev pub Ahead : (place : ℕ) → (by : ℤ) → Type 0
+Ahead place by = (k : ℕ) × (by ≡ pos k) × (place + 1 + k < 2 ^ 64)
+
+-- so many words before the one behind a place there is a word
+abbrev pub Back : (place : ℕ) → (by : ℤ) → Type 0
+Back place by = (k : ℕ) × (by ≡ negsuc k) × (k ≤ place)

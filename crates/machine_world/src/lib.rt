@@ -2,6 +2,8 @@
 #![tactic(auto)]
 
 mod code;
+mod jumps;
+mod loads;
 mod machine;
 mod rows;
 

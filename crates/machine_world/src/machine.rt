@@ -10,6 +10,7 @@ ghost use Rattle.luau_tables.specs.Worlds.{MayUseIn};
 ghost use Rattle.machine_meaning.specs.States as machine;
 ghost use Rattle.machine_world.specs.Functions.{purpose_of};
 ghost use Rattle.machine_world.specs.Parts as parts;
+ghost use Rattle.machine_world.specs.Rows.{place_here};
 ghost use Rattle.machine_world.specs.Sound.{IsMachine, HasRegister, HasUpvalue, HasPlaceOf, HasList, IsCell, Up, Runs, GoesOn};
 
 use crate::code::Code;
@@ -129,6 +130,29 @@ impl Machine {
         ensures code { self.new.code ≡ self.old.code }
     {
         self.stack.set_place(place);
+    }
+
+    /// The function that runs waits for no call any more.
+    pub fn awake(&mut self, world: &LibWorld)
+        requires sound { IsMachine world.now self.old.stack }
+        requires runs { Runs self.old.stack }
+        ensures awake { parts.Becomes (parts.changed parts.awake) world.now self.old.code self.old.stack world.now self.new.stack }
+        ensures sound { IsMachine world.now self.new.stack }
+        ensures goes { GoesOn self.new.stack }
+        ensures code { self.new.code ≡ self.old.code }
+    {
+        self.stack.set_kind(ReturnKind::Idle);
+    }
+
+    /// The place of the instruction at which the function that runs stands.
+    pub fn place(&self) -> usize
+        requires { Runs self.now.stack }
+        ensures { result ≡ place_here self.now.stack }
+    {
+        let Some(frame) = self.stack.frame() else {
+            unreachable!()
+        };
+        frame.place
     }
 
     /// The function that runs waits for a call, and then does this with its values.
