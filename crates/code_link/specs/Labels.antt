@@ -2,7 +2,7 @@
 use Rattle.std.specs.Prelude.{◌<◌, ◌^◌, ℕ, ◌+◌, Bool, true, false, List, [], ◌∷◌, length, Option, Some, None, IsSome, IsTrue, nat_eq, if◌then◌else◌}
 use Rattle.std.specs.List.{IsDistinct}
 use Rattle.op_words.specs.declared.insn.Insn.{Insn as Instruction}
-use Rattle.op_words.specs.declared.insn.Insn.TheVariants.{Jump, JumpBack, JumpIfEq, JumpIfLe, JumpIfLt, JumpIfNotEq, JumpIfNotLe, JumpIfNotLt}
+use Rattle.op_words.specs.declared.insn.Insn.TheVariants.{Jump, JumpBack, JumpIf, JumpIfNot, JumpIfEq, JumpIfLe, JumpIfLt, JumpIfNotEq, JumpIfNotLe, JumpIfNotLt, ForNPrep, ForNLoop, ForGPrep, ForGLoop, JumpXEqKNil, JumpXEqKB, JumpXEqKN, JumpXEqKS}
 use Rattle.op_words.specs.Encoding.{encoded}
 use Rattle.code_link.specs.declared.item.Item.{Item}
 use Rattle.code_link.specs.declared.item.Item.TheVariants.{Insn, Branch, Label}
@@ -11,12 +11,22 @@ use Rattle.code_link.specs.declared.item.Item.TheVariants.{Insn, Branch, Label}
 abbrev pub is_jump : Instruction → Bool
 is_jump (Jump by) = true
 is_jump (JumpBack by) = true
+is_jump (JumpIf value by) = true
+is_jump (JumpIfNot value by) = true
 is_jump (JumpIfEq left by right) = true
 is_jump (JumpIfLe left by right) = true
 is_jump (JumpIfLt left by right) = true
 is_jump (JumpIfNotEq left by right) = true
 is_jump (JumpIfNotLe left by right) = true
 is_jump (JumpIfNotLt left by right) = true
+is_jump (ForNPrep base by) = true
+is_jump (ForNLoop base by) = true
+is_jump (ForGPrep base by) = true
+is_jump (ForGLoop base by variables) = true
+is_jump (JumpXEqKNil value by test) = true
+is_jump (JumpXEqKB value by test) = true
+is_jump (JumpXEqKN value by test) = true
+is_jump (JumpXEqKS value by test) = true
 is_jump insn = false
 
 -- how many words the items take

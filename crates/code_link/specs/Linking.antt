@@ -2,7 +2,7 @@
 use Rattle.std.specs.Prelude.{◌≡◌, ℕ, ◌+◌, ℤ, pos, ◌+ℤ◌, List, [], ◌∷◌, ◌++◌, length, drop, Option, Some, IsTrue, FitsSigned}
 use Rattle.std.specs.Int.{w16}
 use Rattle.op_words.specs.declared.insn.Insn.{Insn as Instruction}
-use Rattle.op_words.specs.declared.insn.Insn.TheVariants.{Jump, JumpBack, JumpIfEq, JumpIfLe, JumpIfLt, JumpIfNotEq, JumpIfNotLe, JumpIfNotLt}
+use Rattle.op_words.specs.declared.insn.Insn.TheVariants.{Jump, JumpBack, JumpIf, JumpIfNot, JumpIfEq, JumpIfLe, JumpIfLt, JumpIfNotEq, JumpIfNotLe, JumpIfNotLt, ForNPrep, ForNLoop, ForGPrep, ForGLoop, JumpXEqKNil, JumpXEqKB, JumpXEqKN, JumpXEqKS}
 use Rattle.op_words.specs.Encoding.{encoded}
 use Rattle.code_link.specs.declared.item.Item.{Item}
 use Rattle.code_link.specs.declared.item.Item.TheVariants.{Insn, Branch, Label}
@@ -12,12 +12,22 @@ use Rattle.code_link.specs.Labels.{is_jump, place_in}
 abbrev pub jumping : Instruction → ℤ → Instruction
 jumping (Jump _) by = Jump by
 jumping (JumpBack _) by = JumpBack by
+jumping (JumpIf value _) by = JumpIf value by
+jumping (JumpIfNot value _) by = JumpIfNot value by
 jumping (JumpIfEq left _ right) by = JumpIfEq left by right
 jumping (JumpIfLe left _ right) by = JumpIfLe left by right
 jumping (JumpIfLt left _ right) by = JumpIfLt left by right
 jumping (JumpIfNotEq left _ right) by = JumpIfNotEq left by right
 jumping (JumpIfNotLe left _ right) by = JumpIfNotLe left by right
 jumping (JumpIfNotLt left _ right) by = JumpIfNotLt left by right
+jumping (ForNPrep base _) by = ForNPrep base by
+jumping (ForNLoop base _) by = ForNLoop base by
+jumping (ForGPrep base _) by = ForGPrep base by
+jumping (ForGLoop base _ variables) by = ForGLoop base by variables
+jumping (JumpXEqKNil value _ test) by = JumpXEqKNil value by test
+jumping (JumpXEqKB value _ test) by = JumpXEqKB value by test
+jumping (JumpXEqKN value _ test) by = JumpXEqKN value by test
+jumping (JumpXEqKS value _ test) by = JumpXEqKS value by test
 jumping insn by = insn
 
 -- at this place of the code stand the instruction's words

@@ -93,12 +93,30 @@ fn jumping(insn: &Insn, by: i16) -> Insn
     match *insn {
         Insn::Jump { .. } => Insn::Jump { by },
         Insn::JumpBack { .. } => Insn::JumpBack { by },
+        Insn::JumpIf { value, .. } => Insn::JumpIf { value, by },
+        Insn::JumpIfNot { value, .. } => Insn::JumpIfNot { value, by },
         Insn::JumpIfEq { left, right, .. } => Insn::JumpIfEq { left, by, right },
         Insn::JumpIfLe { left, right, .. } => Insn::JumpIfLe { left, by, right },
         Insn::JumpIfLt { left, right, .. } => Insn::JumpIfLt { left, by, right },
         Insn::JumpIfNotEq { left, right, .. } => Insn::JumpIfNotEq { left, by, right },
         Insn::JumpIfNotLe { left, right, .. } => Insn::JumpIfNotLe { left, by, right },
         Insn::JumpIfNotLt { left, right, .. } => Insn::JumpIfNotLt { left, by, right },
+        Insn::ForNPrep { base, .. } => Insn::ForNPrep { base, by },
+        Insn::ForNLoop { base, .. } => Insn::ForNLoop { base, by },
+        Insn::ForGPrep { base, .. } => Insn::ForGPrep { base, by },
+        Insn::ForGLoop {
+            base,
+            variables,
+            ..
+        } => Insn::ForGLoop {
+            base,
+            by,
+            variables,
+        },
+        Insn::JumpXEqKNil { value, test, .. } => Insn::JumpXEqKNil { value, by, test },
+        Insn::JumpXEqKB { value, test, .. } => Insn::JumpXEqKB { value, by, test },
+        Insn::JumpXEqKN { value, test, .. } => Insn::JumpXEqKN { value, by, test },
+        Insn::JumpXEqKS { value, test, .. } => Insn::JumpXEqKS { value, by, test },
         other => other,
     }
 }

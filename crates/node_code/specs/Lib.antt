@@ -1,0 +1,4 @@
+pub mod Code
+pub mod Conditions
+pub mod Lists
+pub mod Nodes
