@@ -15,6 +15,7 @@ use Rattle.syntax_tree.specs.declared.tree.Stat.{Stat}
 use Rattle.syntax_tree.specs.declared.tree.ExprKind.TheOpen as level
 use Rattle.syntax_tree.specs.declared.tree.ExprKind.TheOpen.{ExprKind-F, FieldKind-F, StatKind-F, Arm-F, Expr-F, ExprArm-F, Field-F, FuncBody-F, Stat-F}
 use Rattle.syntax_tree.specs.Fold.{Steps, at_expr, at_stat, at_func, at_arm, at_expr_arm}
+use Rattle.emit_expr.specs.declared.draft.Draft.{Draft}
 use Rattle.emit_expr.specs.declared.draft.Emitter.{Emitter}
 use Rattle.emit_expr.specs.declared.draft.Loop.{Loop}
 use Rattle.emit_expr.specs.declared.draft.Mark.{Mark}
@@ -208,15 +209,18 @@ update_run b (Named x name) op y free d =
 
 -- ---- statements
 
+abbrev pub no_turns : (free : ℕ) → Step
+no_turns free d = d
+
 abbrev pub plain : (ℕ → Loop → Step) → StatCode
-plain run = record { declares = 0; run = run }
+plain run = record { declares = 0; run = run; turns = no_turns }
 
 abbrev pub local_run : Bindings → (count : ℕ) → List ExprCode → (id free : ℕ) → Step
 local_run b count es id free d = declare_all (first_at b id) free count (exact_run es free count d)
 
 abbrev pub stat_kind_code : Bindings → StatLevel → (id : ℕ) → StatCode
 stat_kind_code b (level.Local xs es) id =
-    record { declares = length xs; run = λ free l. local_run b (length xs) es id free }
+    record { declares = length xs; run = λ free l. local_run b (length xs) es id free; turns = no_turns }
 stat_kind_code b (level.Assign ts es) id = plain (λ free l d. assign_all b ts free (exact_run es free (length ts) d))
 stat_kind_code b (level.Compound op t e) id = plain (λ free l. update_run b t.target op e free)
 stat_kind_code b (level.StatKind::Call e) id = plain (λ free l. e.run free 1)
@@ -224,9 +228,10 @@ stat_kind_code b (level.Do body) id = plain (block_run b body)
 stat_kind_code b (level.While cond body) id = plain (λ free l. while_run b cond body id free)
 stat_kind_code b (level.Repeat body cond) id = plain (λ free l. repeat_run b body cond id free)
 stat_kind_code b (level.StatKind::If arms other) id = plain (branches_run b arms other id)
-stat_kind_code b (level.NumFor x start limit step body) id = plain (λ free l. num_for_run b start limit step body id free)
+stat_kind_code b (level.NumFor x start limit step body) id =
+    record { declares = 0; run = λ free l. num_for_run b start limit step body id free; turns = turns_run b body id }
 stat_kind_code b (level.LocalFunction x f) id =
-    record { declares = 1; run = λ free l d. f free (declare (first_at b id) free d) }
+    record { declares = 1; run = λ free l d. f free (declare (first_at b id) free d); turns = no_turns }
 stat_kind_code b (level.Return es) id = plain (λ free l d. insn (i.Return free (count_of es)) (list_run es free d))
 stat_kind_code b level.Break id = plain (λ free l d. branch (i.Jump (pos 0)) (label l.node 1) (close_run b l.start d))
 stat_kind_code b level.Continue id = plain (λ free l d. branch (i.Jump (pos 0)) (label l.node 2) (close_run b l.turn d))
@@ -239,9 +244,17 @@ abbrev pub prepared : (vararg : Bool) → (params : ℕ) → Step
 prepared true params d = insn (i.PrepVarargs params) d
 prepared false params d = d
 
+-- into a function: its parameters are in scope
+abbrev pub func_begin : Bindings → (id params : ℕ) → (vararg : Bool) → Step
+func_begin b id params vararg d = declare_all (first_at b id) 0 params (prepared vararg params (with_draft (blank id) d))
+
+-- out of it: where its text ends it returns nothing
+abbrev pub func_end : Bindings → (params : ℕ) → (vararg : Bool) → (to : ℕ) → (outer : Draft) → Step
+func_end b params vararg to outer d = close_over b params vararg to outer (insn (i.Return 0 1) d)
+
 abbrev pub func_run : Bindings → (id params : ℕ) → (vararg : Bool) → List StatCode → FuncCode
 func_run b id params vararg body to d =
-    close_over b params vararg to d.draft (insn (i.Return 0 1) (stats_run body params no_loop (declare_all (first_at b id) 0 params (prepared vararg params (with_draft (blank id) d)))))
+    func_end b params vararg to d.draft (stats_run body params no_loop (func_begin b id params vararg d))
 
 abbrev pub steps : Bindings → Steps (ℕ → ExprCode) (Unit {0}) (ℕ → StatCode) ArmCode ExprCode ChoiceCode (Unit {0}) FuncCode StatCode
 steps b =

@@ -32,6 +32,8 @@ pub record ExprCode : Type 0 where
 pub record StatCode : Type 0 where
   pub declares : ℕ
   pub run : (free : ℕ) → Loop → Step
+  -- of a numeric loop, its turns, which stand behind its bounds
+  pub turns : (free : ℕ) → Step
 
 -- a condition of an `if`, and its block
 pub record ArmCode : Type 0 where

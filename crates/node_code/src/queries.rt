@@ -8,8 +8,10 @@ ghost use Rattle.node_code.specs.Code as spec;
 ghost use Rattle.node_code.specs.Lists as lists;
 ghost use Rattle.node_code.specs.Conditions as conditions;
 
-use emit_expr::{Emitter, Loop, Mark, bound_at, first_at, label, own_of, takes_left};
+use emit_expr::{Draft, Emitter, Loop, Mark, bound_at, first_at, label, own_of, takes_left};
 use op_words::Insn;
+use std::alloc::Global;
+use std::mem;
 use syntax_tree::{BinOp, Bindings, Expr, ExprKind, Stat, StatKind};
 use whole_num::Whole;
 
@@ -218,7 +220,7 @@ pub fn assign_all(code: &mut Emitter, b: &Bindings, from: u8, targets: &[Expr])
 }
 
 /// A function that takes any number of arguments says so first.
-pub fn prepare(code: &mut Emitter, vararg: bool, params: u8)
+fn prepare(code: &mut Emitter, vararg: bool, params: u8)
     ensures { Went code.old code.new (spec.prepared vararg params code.old) }
 {
     if vararg {
@@ -313,4 +315,39 @@ pub fn copy_index(code: &mut Emitter, b: &Bindings, node: usize, free: u8)
         from: free + 2,
     });
     code.declare(first_at(b, node), free + 3)
+}
+
+/// Into a function, whose parameters are in scope; answers the function around it.
+#[tactic(auto, unfolding(emit_expr::specs::Puts::with_draft))]
+pub fn begin_function(
+    code: &mut Emitter,
+    alloc: Global,
+    b: &Bindings,
+    node: usize,
+    params: usize,
+    vararg: bool,
+) -> Draft
+    requires { params ≤ 250 }
+    ensures outer { result ≡ code.old.draft }
+    ensures code { Went code.old code.new (spec.func_begin b.now node params vararg code.old) }
+{
+    let outer = mem::replace(&mut code.draft, Draft::new(alloc, node));
+    prepare(code, vararg, params as u8);
+    code.declare_all(first_at(b, node), 0, params);
+    outer
+}
+
+/// Out of a function, which returns nothing where its text ends.
+pub fn end_function(
+    code: &mut Emitter,
+    b: &Bindings,
+    params: usize,
+    vararg: bool,
+    to: u8,
+    outer: Draft,
+)
+    ensures { Went code.old code.new (spec.func_end b.now params vararg to outer code.old) }
+{
+    code.insn(Insn::Return { base: 0, values: 1 });
+    code.close_over(b, params, vararg, to, outer)
 }
