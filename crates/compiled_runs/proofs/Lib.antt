@@ -2,3 +2,4 @@ pub mod Reading
 pub mod Places
 pub mod Sights
 pub mod Scopes
+pub mod Numbers

@@ -11,10 +11,10 @@ use Rattle.emit_expr.specs.Names.{is_captured, register_in, any_captured}
 use Rattle.scope_laws.specs.Sight.{visible}
 use Rattle.code_simulation.specs.Slots.{Slot, Var, Temp, Local, local_at}
 
-same_some : {A : Type 0} {x y : A} → Some x ≡ Some y → x ≡ y
+pub same_some : {A : Type 0} {x y : A} → Some x ≡ Some y → x ≡ y
 same_some e = cc
 
-some_none : {A B : Type 0} {x : A} → None ≡ Some x → B
+pub some_none : {A B : Type 0} {x : A} → None ≡ Some x → B
 some_none e = cc
 
 -- ---- looking up from the newest on
