@@ -3,3 +3,4 @@ pub mod Places
 pub mod Sights
 pub mod Scopes
 pub mod Numbers
+pub mod Standing
