@@ -4,3 +4,4 @@ pub mod Sights
 pub mod Scopes
 pub mod Numbers
 pub mod Standing
+pub mod Constants

@@ -41,8 +41,7 @@ use Rattle.compiled_runs.proofs.Scopes.{AllBelow, below_later, Aligned, Found, M
 pub name_kind : (k : ExprKind) (x : StrId) → out-ExprKind k ≡ level.Name x → k ≡ expr_kind.Name x
 name_kind k x e =
     let same : roll-ExprKind (out-ExprKind k) ≡ k = search (rules, folds.the_lemmas, views.the_lemmas) in
-    let name : roll-ExprKind (out-ExprKind (expr_kind.Name x)) ≡ expr_kind.Name x = search (rules, folds.the_lemmas, views.the_lemmas) in
-    sym same ∙ ap roll-ExprKind (e ∙ sym (views.outs-Name x)) ∙ name
+    sym same ∙ ap roll-ExprKind e ∙ views.rolls-Name x
 
 -- a numbered tree with its bindings, and a chunk whose strings are the texts of those that were emitted
 pub record Script (p : Setting) (b : Bindings) (whole : Emitter) : Type 0 where
