@@ -121,16 +121,17 @@ entered_m_with number proto cells c vs ms d n us =
 -- with so many turns left each function that has code goes along with it, when it is entered
 abbrev pub FuncsGo : Setting → ℕ → Type 0
 FuncsGo p left =
-    (func : FuncBody) (number : ℕ) (ups : List StrId) (proto : ProtoOf) → Code p func number ups proto
-    → (outer : source.Environment) (cells : List ℕ) (c : ℕ) (vs : List Value) (co : ℕ) (ws : List Wait) (fs : List source.Activation)
+    (func : FuncBody) (number : ℕ) (outer : source.Environment) (ups : List StrId) (proto : ProtoOf) → Code p func number outer ups proto
+    → (cells : List ℕ) (c : ℕ) (vs : List Value) (co : ℕ) (ws : List Wait) (fs : List source.Activation)
     (ms : List machine.Frame) (ds : List Desc) (d : Dyn) → Ok p left co (Runs c ∷ ws) ds d → UpsAlike d.tag outer ups cells
     → Stands p left co ws fs ms ds → Alike p left (entered_s func outer c vs fs d) (entered_m number proto cells c vs ms d)
 
-module _ (p : Setting) (left : ℕ) (func : FuncBody) (number : ℕ) (ups : List StrId) (proto : ProtoOf) (code : Code p func number ups proto) where
+module _ (p : Setting) (left : ℕ) (func : FuncBody) (number : ℕ) (outer : source.Environment) (ups : List StrId) (proto : ProtoOf)
+    (code : Code p func number outer ups proto) where
   -- what stays as it is while the function runs
-  abbrev pub here_of : (outer : source.Environment) (cells : List ℕ) (c : ℕ) (vs : List Value) (co : ℕ) (ws : List Wait) (fs : List source.Activation)
+  abbrev pub here_of : (cells : List ℕ) (c : ℕ) (vs : List Value) (co : ℕ) (ws : List Wait) (fs : List source.Activation)
       (ms : List machine.Frame) (ds : List Desc) → Stands p left co ws fs ms ds → Here p left
-  here_of outer cells c vs co ws fs ms ds stands =
+  here_of cells c vs co ws fs ms ds stands =
       record {
         closure = c;
         co = co;
@@ -158,16 +159,16 @@ module _ (p : Setting) (left : ℕ) (func : FuncBody) (number : ℕ) (ups : List
 
   -- A function goes along with its code where its body does, which stands from behind the beginning to an instruction that returns nothing
   pub entered_same : (calls : (i : ℕ) → i ≤ left → CallsGo p i) (captured : ℕ → Bool) (from last next : ℕ) (End : List Slot → Type 0)
-      (outer : source.Environment) (cells : List ℕ) (c : ℕ) (vs : List Value) (co : ℕ) (ws : List Wait) (fs : List source.Activation)
+      (cells : List ℕ) (c : ℕ) (vs : List Value) (co : ℕ) (ws : List Wait) (fs : List source.Activation)
       (ms : List machine.Frame) (ds : List Desc) (stands : Stands p left co ws fs ms ds)
-      → Begins (here_of outer cells c vs co ws fs ms ds stands) from
-      → ((n : ℕ) → BlockRuns p left (out-FuncBody func).body (here_of outer cells c vs co ws fs ms ds stands)
+      → Begins (here_of cells c vs co ws fs ms ds stands) from
+      → ((n : ℕ) → BlockRuns p left (out-FuncBody func).body (here_of cells c vs co ws fs ms ds stands)
       (vars captured (out-FuncBody func).params n []) outside from last End)
-      → Reads p left (here_of outer cells c vs co ws fs ms ds stands) last (insn.Return 0 1) next → (d : Dyn) → Ok p left co (Runs c ∷ ws) ds d
+      → Reads p left (here_of cells c vs co ws fs ms ds stands) last (insn.Return 0 1) next → (d : Dyn) → Ok p left co (Runs c ∷ ws) ds d
       → UpsAlike d.tag outer ups cells → Alike p left (entered_s func outer c vs fs d) (entered_m number proto cells c vs ms d)
-  entered_same calls captured from last next End outer cells c vs co ws fs ms ds stands begins body reads d o alike =
+  entered_same calls captured from last next End cells c vs co ws fs ms ds stands begins body reads d o alike =
       let f = out-FuncBody func in
-      let h = here_of outer cells c vs co ws fs ms ds stands in
+      let h = here_of cells c vs co ws fs ms ds stands in
       let n = length f.params in
       let regs : Registers = filled 0 (take n vs) in
       let file : File = record { registers = regs; top = length (take n vs) } in

@@ -167,9 +167,9 @@ module _ (p : Setting) (most : ℕ) where
       (take_same ys turns h l at next to (before ++ k ∷ []) d file more w)
 
   -- the closure's function among those of the function that runs
-  pub record Child (h : Here p most) (func : FuncBody) (c number : ℕ) (ups : List StrId) (proto : ProtoOf) : Type 0 where
+  pub record Child (h : Here p most) (l : List Slot) (func : FuncBody) (c number : ℕ) (ups : List StrId) (proto : ProtoOf) : Type 0 where
     pub child : slice_get h.proto.children c ≡ Some number
-    pub code : Code p func number ups proto
+    pub code : Code p func number (env_of p most h l) ups proto
 
   -- both states behind a new closure
   abbrev pub made : Here p most → List Slot → Dyn → FuncBody → (number : ℕ) → Tags → List Value → List ℕ → Dyn
@@ -178,14 +178,14 @@ module _ (p : Setting) (most : ℕ) where
       (record { proto = number; cells = taken })
 
   pub made_holds : (turns : ℕ) (h : Here p most) (l : List Slot) (d : Dyn) (at : ℕ) (file : File) (place to : ℕ) (func : FuncBody) (number : ℕ)
-      (ups : List StrId) (proto : ProtoOf) → Code p func number ups proto → (t : Took turns h l d at file ups place to [])
+      (ups : List StrId) (proto : ProtoOf) → Code p func number (env_of p most h l) ups proto → (t : Took turns h l d at file ups place to [])
       → Has p most h turns l (made h l d func number t.tag t.cells t.taken) (with_registers file t.registers)
   made_holds turns h l d at file place to func number ups proto code t =
       make_closure (environment_of (store_s d) h.closure) _ _ (record { ups = ups; proto = proto; coded = code; alike = t.alike }) t.holds
 
   -- the row of the instruction that makes a closure
   pub closure_row : (turns : ℕ) (h : Here p most) (l : List Slot) (d : Dyn) (file : File) (from mid to r c : ℕ) (func : FuncBody) (number : ℕ)
-      (ups : List StrId) (proto : ProtoOf) → Reads p most h from (insn.NewClosure r (pos c)) mid → Child h func c number ups proto
+      (ups : List StrId) (proto : ProtoOf) → Reads p most h from (insn.NewClosure r (pos c)) mid → Child h l func c number ups proto
       → store_s d ≡ store_m d → (t : Took turns h l d from file ups mid to [])
       → machine_steps.step p.chunk (machine_at p most h from file d) ≡ machine_moves.give r (Closure (length (store_s d).closures)) to
       (frame p most h from (with_registers file t.registers)) h.below_m (made h l d func number t.tag t.cells t.taken).code
@@ -208,7 +208,7 @@ module _ (p : Setting) (most : ℕ) where
   -- a function expression
   pub function_same : (e : Expr) (func : FuncBody) (c number : ℕ) (ups : List StrId) (proto : ProtoOf) (h : Here p most) (l : List Slot)
       (from mid to : ℕ) → out-ExprKind e.kind ≡ level.Function func → Reads p most h from (insn.NewClosure (length l) (pos c)) mid
-      → Captures h l ups mid to → Child h func c number ups proto → ExprRuns p most e h l from to
+      → Captures h l ups mid to → Child h l func c number ups proto → ExprRuns p most e h l from to
   function_same e func c number ups proto h l from mid to kind reads captures child left le k d file w go =
       let t = take_same ups left h l from mid to [] d file captures w in
       source_goes p (ap (λ (y : ExprLevel). expressions.begin p.texts y (of_expr e) (inside p most h) k (env_of p most h l) d.script) kind)

@@ -218,7 +218,7 @@ module _ (p : Setting) (left : ℕ) (co_laws : Coroutines p left) (fewer_calls :
       let a = decision.charged (Enters c vs) (await (Runs c) d.script.waits (store_s d)) (store_s d) in
       asks_same (Called by (Closure c) vs) a co ws fs ms ds d (called_is by (Closure c) vs _ d.script.waits (store_s d))
       (record { script = λ s w. refl; code = λ s w. refl }) o o.running
-      (λ i e b m al. funcs i (omega (arith, e)) b.func m.proto al.ups al.proto al.coded b.env m.cells c vs co ws fs ms ds (decides d a)
+      (λ i e b m al. funcs i (omega (arith, e)) b.func m.proto b.env al.ups al.proto al.coded m.cells c vs co ws fs ms ds (decides d a)
       (ok_later p i left co (Runs c ∷ ws) ds (decides d a) (omega (arith, e)) (ok_more a (Runs c) refl refl o)) al.alike
       (stands_later i (omega (arith, e)) stands))
       _ _ refl refl

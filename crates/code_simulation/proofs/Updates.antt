@@ -52,7 +52,7 @@ module _ (p : Setting) (most : ℕ) where
   pub local_function_same : (s : Stat) (x : StrId) (func : FuncBody) (cap : Bool) (c number : ℕ) (ups : List StrId) (proto : ProtoOf)
       (h : Here p most) (l : List Slot) (j : Jumps) (from mid to : ℕ) → out-StatKind s.kind ≡ level.LocalFunction x func
       → Reads p most h from (insn.NewClosure (length l) (pos c)) mid → ((n : ℕ) → Captures p most h (Var x n cap ∷ l) ups mid to)
-      → Child p most h func c number ups proto → StatRuns p most s h l j from to (λ n. Var x n cap ∷ l)
+      → ((n : ℕ) → Child p most h (Var x n cap ∷ l) func c number ups proto) → StatRuns p most s h l j from to (λ n. Var x n cap ∷ l)
   local_function_same s x func cap c number ups proto h l j from mid to kind reads captures child left le k d file w ways go =
       let free = w.clear (length l) (omega arith) in
       let n = length (cells_s d) in
@@ -61,7 +61,7 @@ module _ (p : Setting) (most : ℕ) where
       let w1 = declare l x cap free.0 [] (claim free.0 free.1 w) in
       let t = take_same p most ups left h l1 from mid to [] d1 file (captures n) w1 in
       let d2 = made p most h l1 d1 func number t.tag t.cells t.taken in
-      let w2 = made_holds p most left h l1 d1 from file mid to func number ups proto child.code t in
+      let w2 = made_holds p most left h l1 d1 from file mid to func number ups proto (child n).code t in
       let file2 = with_registers p most file t.registers in
       let v = Closure (length (store_s d).closures) in
       written p most h l1 d2 file2 x (record { register = length l; cell = n; captured = cap }) v (newest x n cap l) w2
@@ -73,7 +73,7 @@ module _ (p : Setting) (most : ℕ) where
       (sym (set_last (cells_s d) free.0 v))
       ∙ ap (λ y. source_moves.now source.Done (inside p most h) k (env_of p most h l1) y) source_is)
       (target_goes p
-      (closure_row p most left h l1 d1 file from mid to (length l) c func number ups proto reads child w1.ok.base.store t
+      (closure_row p most left h l1 d1 file from mid to (length l) c func number ups proto reads (child n) w1.ok.base.store t
       ∙ ap (λ y. machine_moves.on (machine_moves.go to) y h.below_m) (set_is machine.Idle from))
       (go left (omega arith) n d3 file3 w3)))
 

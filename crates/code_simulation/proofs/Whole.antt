@@ -58,7 +58,7 @@ first_here : (host : HostFields) → here (fresh host) ≡ 0
 unfolding fresh
 first_here host = refl
 
-module _ (p : Setting) (tree : Tree) (host : HostFields) (replies : List Reply) (proto : ProtoOf) (code : Code p tree.main p.chunk.main [] proto) where
+module _ (p : Setting) (tree : Tree) (host : HostFields) (replies : List Reply) (proto : ProtoOf) (code : Code p tree.main p.chunk.main [] [] proto) where
   first_base : Base p (first_dyn p tree host replies)
   first_base = record {
     store = refl;
@@ -143,7 +143,7 @@ module _ (p : Setting) (tree : Tree) (host : HostFields) (replies : List Reply) 
   main_same n e others funcs =
       subst (λ s. Alike p n s (loaded p.chunk host replies)) (sym (first_s e))
       (subst (λ m. Alike p n (entered_s tree.main [] 0 [] [] (first_dyn p tree host replies)) m) (sym (first_m e))
-      (funcs tree.main p.chunk.main [] proto code [] [] 0 [] 0 [] [] [] [] (first_dyn p tree host replies) (first_ok n others) tt bottom))
+      (funcs tree.main p.chunk.main [] [] proto code [] 0 [] 0 [] [] [] [] (first_dyn p tree host replies) (first_ok n others) tt bottom))
 
 -- ---- by the turns that are left
 
@@ -163,7 +163,7 @@ module _ (p : Setting) (laws : (i : ℕ) → Coroutines p i) (bodies : (i : ℕ)
   all_functions n = (both_below (suc n) n (omega arith)).1
 
 module _ (p : Setting) (laws : (i : ℕ) → Coroutines p i) (bodies : (i : ℕ) → ((j : ℕ) → j ≤ i → CallsGo p j) → FuncsGo p i) (tree : Tree)
-    (host : HostFields) (replies : List Reply) (proto : ProtoOf) (code : Code p tree.main p.chunk.main [] proto)
+    (host : HostFields) (replies : List Reply) (proto : ProtoOf) (code : Code p tree.main p.chunk.main [] [] proto)
     (no_parameter : (out-FuncBody tree.main).params ≡ []) (others : (n : ℕ) → p.Others n 0 (first_dyn p tree host replies)) where
   go_along : (n : ℕ) → Alike p n (start tree host replies) (loaded p.chunk host replies)
   go_along n = main_same p tree host replies proto code n no_parameter (others n) (all_functions p laws bodies n)

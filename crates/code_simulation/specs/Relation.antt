@@ -53,7 +53,7 @@ abbrev pub stored : Dyn → Store → Dyn
 stored d s = record { tag = d.tag; script = source_moves.with_store s d.script; code = machine_moves.with_store s d.code }
 
 -- ---- what the proof is of: the texts of the script's names, the chunk, what it means that a function's code is that of its tree, where
--- it has these captured variables, and what holds besides with so many turns left while a coroutine runs
+-- these variables are in scope around it and it captures those, and what holds besides with so many turns left while a coroutine runs
 
 -- a change that leaves the other coroutines as they are
 pub record Around (co : ℕ) (d d' : Dyn) : Type 0 where
@@ -72,7 +72,7 @@ pub record Keeps (co depth : ℕ) (tag tag' : Tags) : Type 0 where
 pub record Setting : Type 1 where
   pub texts : List Bytes
   pub chunk : ChunkOf
-  pub IsCode : FuncBody → (proto : ℕ) → (captured : List StrId) → ProtoOf → Type 0
+  pub IsCode : FuncBody → (proto : ℕ) → (around : Environment) → (captured : List StrId) → ProtoOf → Type 0
   pub Others : (turns co : ℕ) → Dyn → Type 0
   pub others_keep : (turns co depth : ℕ) (d d' : Dyn) → Keeps co depth d.tag d'.tag → Around co d d' → Others turns co d → Others turns co d'
   pub others_later : (fewer turns co : ℕ) (d : Dyn) → fewer ≤ turns → Others turns co d → Others fewer co d
@@ -90,18 +90,18 @@ UpsAlike tag env [] (k ∷ ks) = ⊥
 UpsAlike tag env (y ∷ ys) [] = ⊥
 
 -- a function's code
-pub record Code (p : Setting) (func : FuncBody) (number : ℕ) (ups : List StrId) (proto : ProtoOf) : Type 0 where
+pub record Code (p : Setting) (func : FuncBody) (number : ℕ) (around : Environment) (ups : List StrId) (proto : ProtoOf) : Type 0 where
   pub found : proto_at p.chunk number ≡ Some proto
   pub params : proto.params ≡ length (out-FuncBody func).params
   pub vararg : proto.vararg ≡ (out-FuncBody func).vararg
   pub upvalues : proto.upvalues ≡ length ups
-  pub code : p.IsCode func number ups proto
+  pub code : p.IsCode func number around ups proto
 
 -- a closure of the script and one of the machine
 pub record FuncAlike (p : Setting) (tag : Tags) (f : source.Body) (m : machine.Body) : Type 0 where
   pub ups : List StrId
   pub proto : ProtoOf
-  pub coded : Code p f.func m.proto ups proto
+  pub coded : Code p f.func m.proto f.env ups proto
   pub alike : UpsAlike tag f.env ups m.cells
 
 -- ---- the stores
