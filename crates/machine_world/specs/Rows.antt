@@ -7,7 +7,7 @@ use Rattle.luau_tables.specs.declared.globals.LibWorld.{LibWorld}
 use Rattle.call_frames.specs.Stacks.{StackView}
 use Rattle.machine_meaning.specs.States.{Run, Focus, Frame, World}
 use Rattle.machine_meaning.specs.Moves.{Row, Step}
-use Rattle.machine_world.specs.declared.code.Code.{Code}
+use Rattle.machine_code.specs.declared.code.Code.{Code}
 use Rattle.machine_world.specs.Parts.{part}
 
 abbrev pub row_in : Row → List Frame → World → Step

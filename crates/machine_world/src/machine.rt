@@ -12,9 +12,9 @@ ghost use Rattle.machine_world.specs.Functions.{purpose_of};
 ghost use Rattle.machine_world.specs.Parts as parts;
 ghost use Rattle.machine_world.specs.Sound.{IsMachine, HasRegister, HasUpvalue, HasPlaceOf, HasList, IsCell, Up, Runs, GoesOn};
 
-use crate::code::Code;
 use call_frames::{Frame, ReturnKind, Stack};
 use luau_tables::LibWorld;
+use machine_code::Code;
 use resource::OutOfMemory;
 use value_model::{CellId, ClosureId, Value};
 
