@@ -36,7 +36,7 @@ use Rattle.call_frames.specs.declared.frame.Frame.{Frame}
 use Rattle.call_frames.specs.Stacks.{StackView}
 use Rattle.machine_meaning.specs.States as machine
 use Rattle.machine_meaning.specs.States.{Focus, State, World}
-use Rattle.machine_world.specs.declared.code.Code.{Code}
+use Rattle.machine_code.specs.declared.code.Code.{Code}
 use Rattle.machine_world.specs.Functions.{body_of, wait_of}
 use Rattle.machine_world.specs.Parts.{environment_id, imports_in, state_with}
 use Rattle.machine_world.specs.Sound.{cell_count, AreOf, IsFunctionOf, IsMachine}

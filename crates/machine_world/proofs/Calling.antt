@@ -30,7 +30,7 @@ use Rattle.call_frames.proofs.Closing.{split_last, last_got, front_is, popped_is
 use Rattle.call_frames.proofs.Innermost.{all_below}
 use Rattle.machine_meaning.specs.States as machine
 use Rattle.machine_meaning.specs.States.{Register, Val, Open, Registers, Focus, State, Body, filled}
-use Rattle.machine_world.specs.declared.code.Code.{Code}
+use Rattle.machine_code.specs.declared.code.Code.{Code}
 use Rattle.machine_world.specs.Functions.{register, window, with_function, function_of, waiting, running, functions_of, laid, kept_cells, cells_of, wait_of, body_of, body_at}
 use Rattle.machine_world.specs.Parts.{world_with, state_with, part, waits_in, left, entered}
 use Rattle.machine_world.specs.Sound.{cell_count, AreOf, IsOwnOf, first, later, AreOwn, IsFunctionOf, IsMachine}

@@ -31,7 +31,7 @@ use Rattle.call_frames.proofs.Closing.{split_last}
 use Rattle.machine_meaning.specs.States as machine
 use Rattle.machine_meaning.specs.States.{Register, Val, Open, Registers, Focus, State, Inside, held, put}
 use Rattle.machine_meaning.specs.Moves.{inside}
-use Rattle.machine_world.specs.declared.code.Code.{Code}
+use Rattle.machine_code.specs.declared.code.Code.{Code}
 use Rattle.machine_world.specs.Functions.{register, window, waiting, running, functions_of, laid, kept_cells, cells_of}
 use Rattle.machine_world.specs.Parts.{world_with, state_with, part, changed_in, changed, read_in, read_of, first_cell, captured, close}
 use Rattle.machine_world.specs.Sound.{cell_count, IsCell, AreOf, IsOwnOf, first, later, AreOwn, HasRegister, IsMachine}

@@ -20,7 +20,7 @@ use Rattle.call_frames.proofs.Closing.{split_last, last_got, front_is}
 use Rattle.call_frames.proofs.Innermost.{replaced, with_innermost_is}
 use Rattle.machine_meaning.specs.States as machine
 use Rattle.machine_meaning.specs.States.{Register, Val, Registers, Focus, State}
-use Rattle.machine_world.specs.declared.code.Code.{Code}
+use Rattle.machine_code.specs.declared.code.Code.{Code}
 use Rattle.machine_world.specs.Functions.{register, window, function_of, waiting, running, functions_of, cells_of, wait_of, wait_in, purpose_of}
 use Rattle.machine_world.specs.Parts.{world_with, state_with, part, waits_in, changed_in, changed, placed, awake, waits}
 use Rattle.machine_world.specs.Sound.{IsOwnOf, first, later, AreOwn, IsFunctionOf, IsLuau, Runs, GoesOn, IsMachine}

@@ -23,7 +23,7 @@ use Rattle.call_frames.proofs.Ending.{lies_on}
 use Rattle.machine_meaning.specs.States as machine
 use Rattle.machine_meaning.specs.States.{Register, Val, Open, Registers, Focus, State, Inside, put, write, set_all, with_cells}
 use Rattle.machine_meaning.specs.Moves.{inside}
-use Rattle.machine_world.specs.declared.code.Code.{Code}
+use Rattle.machine_code.specs.declared.code.Code.{Code}
 use Rattle.machine_world.specs.Functions.{register, window, waiting, running, functions_of, laid, kept_cells, cells_of}
 use Rattle.machine_world.specs.Parts as parts
 use Rattle.machine_world.specs.Parts.{world_with, state_with, part, changed_in, changed}

@@ -18,7 +18,7 @@ use Rattle.machine_meaning.specs.Moves.{Row, Step, inside, on, go, give, saved}
 use Rattle.machine_meaning.specs.Calls.{hand_back}
 use Rattle.machine_meaning.specs.Effects.{list_from, call}
 use Rattle.value_model.specs.Waits.{ByScript}
-use Rattle.machine_world.specs.declared.code.Code.{Code}
+use Rattle.machine_code.specs.declared.code.Code.{Code}
 use Rattle.machine_world.specs.Functions.{waiting, running, cells_of, purpose_of}
 use Rattle.machine_world.specs.Parts.{world_with, part, changed, changed_in, placed, waits, left, register_value, list_of, Becomes, read_in, read_of}
 use Rattle.machine_world.specs.Rows.{row_in, Makes, MakesTo}

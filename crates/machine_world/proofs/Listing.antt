@@ -17,7 +17,7 @@ use Rattle.call_frames.specs.Cells.{innermost, end_in, end_of}
 use Rattle.machine_meaning.specs.States as machine
 use Rattle.machine_meaning.specs.States.{Register, Val, Focus, held, values_in}
 use Rattle.machine_meaning.specs.Effects.{list_from}
-use Rattle.machine_world.specs.declared.code.Code.{Code}
+use Rattle.machine_code.specs.declared.code.Code.{Code}
 use Rattle.machine_world.specs.Functions.{register, running, laid, kept_cells, cells_of}
 use Rattle.machine_world.specs.Parts.{world_with, part, read_in, read_of, list_of, span}
 use Rattle.machine_world.specs.Sound.{IsLuau, Runs, ReachesTo, HasList, IsMachine}

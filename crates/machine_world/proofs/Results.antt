@@ -18,7 +18,7 @@ use Rattle.call_frames.specs.Stacks.{StackView, Layout}
 use Rattle.call_frames.specs.Cells.{AreIn, place_of, end_of, called}
 use Rattle.call_frames.specs.Cells as opens
 use Rattle.machine_meaning.specs.States.{Focus}
-use Rattle.machine_world.specs.declared.code.Code.{Code}
+use Rattle.machine_code.specs.declared.code.Code.{Code}
 use Rattle.machine_world.specs.Parts.{Becomes, changed, captured, captured_cell, read_of, part, entered}
 use Rattle.machine_world.specs.Sound.{IsCell, HasRegister, IsMachine}
 use Rattle.machine_world.proofs.Captured.{Three, part_capture, keeps_capture}

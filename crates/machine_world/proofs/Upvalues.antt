@@ -26,7 +26,7 @@ use Rattle.call_frames.specs.Cells.{Both, AreIn, register_of, cell_on, innermost
 use Rattle.call_frames.specs.Cells as opens
 use Rattle.machine_meaning.specs.States as machine
 use Rattle.machine_meaning.specs.States.{Focus, State, Inside}
-use Rattle.machine_world.specs.declared.code.Code.{Code}
+use Rattle.machine_code.specs.declared.code.Code.{Code}
 use Rattle.machine_world.specs.Functions.{waiting, running, functions_of, laid, kept_cells, cells_of, place_of_cell}
 use Rattle.machine_world.specs.Parts.{world_with, state_with, part, changed_in, changed, read_in, read_of, upvalue_cell, upvalue, set_upvalue}
 use Rattle.machine_world.specs.Sound.{cell_count, IsCell, AreOf, IsFunctionOf, IsLuau, Runs, HasUpvalue, Up, IsMachine}

@@ -22,7 +22,7 @@ use Rattle.call_frames.specs.Cells.{cell_on, innermost, outer, local, with_local
 use Rattle.machine_meaning.specs.States as machine
 use Rattle.machine_meaning.specs.States.{Register, Val, Open, Registers, Focus, State, World, Inside, held, put, write}
 use Rattle.machine_meaning.specs.Moves.{inside}
-use Rattle.machine_world.specs.declared.code.Code.{Code}
+use Rattle.machine_code.specs.declared.code.Code.{Code}
 use Rattle.machine_world.specs.Functions.{register, window, waiting, running, functions_of, laid, kept_cells, cells_of}
 use Rattle.machine_world.specs.Parts.{world_with, state_with, part, changed_in, changed, read_in, read_of, register_value}
 use Rattle.machine_world.specs.Sound.{cell_count, AreOf, IsOwnOf, AreOwn, HasRegister, IsMachine}

@@ -20,8 +20,8 @@ use Rattle.machine_meaning.specs.Moves.{inside, saved, store_of}
 use Rattle.machine_meaning.specs.Calls.{without_first}
 use Rattle.machine_meaning.specs.Effects.{list_from}
 use Rattle.machine_world.specs.Functions.{body_of, wait_of, functions_of, cells_of}
-use Rattle.machine_world.specs.declared.code.Code.{Code}
-use Rattle.machine_world.specs.declared.code.Function.{Function}
+use Rattle.machine_code.specs.declared.code.Code.{Code}
+use Rattle.machine_code.specs.declared.code.Function.{Function}
 
 -- ---- what all functions share
 

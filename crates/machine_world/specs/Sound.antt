@@ -18,7 +18,7 @@ use Rattle.call_frames.specs.Stacks.{StackView}
 use Rattle.call_frames.specs.Cells.{innermost}
 use Rattle.value_model.specs.declared.event.Reply.{Reply}
 use Rattle.machine_meaning.specs.States.{Focus}
-use Rattle.machine_world.specs.declared.code.Code.{Code}
+use Rattle.machine_code.specs.declared.code.Code.{Code}
 use Rattle.machine_world.specs.Parts.{part, read_of, upvalue_cell}
 
 -- how many cells an owner has

@@ -13,9 +13,9 @@ ghost use Rattle.machine_world.specs.Parts as parts;
 ghost use Rattle.machine_world.specs.Rows.{place_here};
 ghost use Rattle.machine_world.specs.Sound.{IsMachine, HasRegister, HasUpvalue, HasPlaceOf, HasList, IsCell, Up, Runs, GoesOn};
 
-use crate::code::Code;
 use call_frames::{Frame, ReturnKind, Stack};
 use luau_tables::LibWorld;
+use machine_code::Code;
 use resource::OutOfMemory;
 use value_model::{CellId, ClosureId, Value};
 

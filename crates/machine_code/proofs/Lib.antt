@@ -1,0 +1,6 @@
+mod Functions
+pub mod Growing
+pub mod Lists
+pub mod Reading
+mod Numbering
+mod Values
