@@ -27,7 +27,7 @@ use Rattle.value_arena.specs.Tables as kept
 use Rattle.luau_tables.specs.Worlds.{IsWorld, MayUseIn}
 use Rattle.luau_tables.proofs.Sameness.{same_kept}
 use Rattle.luau_tables.proofs.OwnTables.{own_value}
-use Rattle.machine_world.specs.declared.code.Code.{Code}
+use Rattle.machine_code.specs.declared.code.Code.{Code}
 use Rattle.machine_world.specs.Functions.{waiting, running, cells_of, purpose_of}
 use Rattle.machine_world.specs.Parts.{world_with, state_with, part, changed, placed, Becomes, read_in, read_of}
 use Rattle.machine_world.specs.Rows.{row_in, Makes, MakesTo, MakesCharged, place_here, proto_here}

@@ -10,14 +10,9 @@ use Rattle.call_frames.specs.Stacks.{StackView}
 use Rattle.call_frames.specs.Cells.{innermost}
 use Rattle.machine_meaning.specs.States.{Run, Focus, Frame, World}
 use Rattle.machine_meaning.specs.Moves.{Row, Step}
-<<<<<<< HEAD
 use Rattle.machine_meaning.specs.Effects.{receive}
-use Rattle.machine_world.specs.declared.code.Code.{Code}
-use Rattle.machine_world.specs.Parts.{part, read_of}
-=======
 use Rattle.machine_code.specs.declared.code.Code.{Code}
-use Rattle.machine_world.specs.Parts.{part}
->>>>>>> d1c3aec3da1f6b23a82a0514be96b9c5f9b7e3b4
+use Rattle.machine_world.specs.Parts.{part, read_of}
 
 abbrev pub row_in : Row → List Frame → World → Step
 row_in row [] w = Ends [] Stuck
