@@ -5,3 +5,6 @@ pub mod Scopes
 pub mod Numbers
 pub mod Standing
 pub mod Constants
+pub mod NodeLevels
+pub mod Nodes
+pub mod Leaves

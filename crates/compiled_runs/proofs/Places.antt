@@ -9,7 +9,9 @@ use Rattle.code_link.specs.declared.item.Item.TheVariants as item
 use Rattle.code_link.specs.Labels.{word_count, place_in}
 use Rattle.emit_expr.specs.declared.draft.Draft.{Draft}
 use Rattle.emit_expr.specs.declared.draft.Emitter.{Emitter}
-use Rattle.emit_expr.specs.Puts.{put, insn, place, branch}
+use Rattle.byte_text.specs.declared.fixed.StrId.{StrId}
+use Rattle.op_words.specs.declared.chunk.Const.{Const}
+use Rattle.emit_expr.specs.Puts.{put, insn, place, branch, with_constant, with_string, with_text, text_constant}
 use Rattle.emit_laws.specs.Growing.{Prefix, Grows}
 use Rattle.emit_laws.proofs.Grows as grows
 use Rattle.compiled_runs.proofs.Reading.{ReadsJump, AreRead, read_behind, words_more}
@@ -58,6 +60,18 @@ here_branch i l d = omega (arith, here_put (item.Branch i l) d)
 
 pub here_place : (l : ℕ) (d : Emitter) → here (place l d) ≡ here d
 here_place l d = omega (arith, here_put (item.Label l) d)
+
+-- constants and texts take no place
+pub here_constant : (k : Const) (d : Emitter) → here (with_constant k d) ≡ here d
+unfolding with_constant
+here_constant k d = refl
+
+here_string : (t : StrId) (d : Emitter) → here (with_string t d) ≡ here d
+unfolding with_string
+here_string t d = refl
+
+pub here_text : (t : StrId) (d : Emitter) → here (with_text t d) ≡ here d
+here_text t d = here_constant (text_constant t d) (with_string t d) ∙ here_string t d
 
 -- places rise
 pub rises : (d d' : Emitter) → Grows d d' → here d ≤ here d'

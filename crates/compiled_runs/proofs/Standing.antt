@@ -65,7 +65,6 @@ module _ (p : Setting) (most : ℕ) (b : Bindings) (whole : Emitter) (script : S
     pub children : h.proto.children ≡ final.children
     pub few_constants : length final.constants ≤ 32768
     pub few_children : length final.children ≤ 32768
-    pub room : h.proto.registers ≤ 250
     pub captured : Captured from func
     pub listed : upvalues_at b (out-FuncBody func).id ≡ captured.locals
     pub globals : (x : StrId) → look x from.scope ≡ None → cell_of h.act.outer x ≡ None
