@@ -245,12 +245,12 @@ module _ (q : Setting) where
 
   -- ---- where the stores fit in the one they do in the other
 
-  code_there : {most deep number : ℕ} {func : FuncBody} {ups : List StrId} {proto : ProtoOf} → Code q func number ups proto
-      → Code (setting most deep) func number ups proto
+  code_there : {most deep number : ℕ} {func : FuncBody} {outer : source.Environment} {ups : List StrId} {proto : ProtoOf} → Code q func number outer ups proto
+      → Code (setting most deep) func number outer ups proto
   code_there c = record { found = c.found; params = c.params; vararg = c.vararg; upvalues = c.upvalues; code = c.code }
 
-  code_here : {most deep number : ℕ} {func : FuncBody} {ups : List StrId} {proto : ProtoOf} → Code (setting most deep) func number ups proto
-      → Code q func number ups proto
+  code_here : {most deep number : ℕ} {func : FuncBody} {outer : source.Environment} {ups : List StrId} {proto : ProtoOf} → Code (setting most deep) func number outer ups proto
+      → Code q func number outer ups proto
   code_here c = record { found = c.found; params = c.params; vararg = c.vararg; upvalues = c.upvalues; code = c.code }
 
   func_there : {most deep : ℕ} {tag : Tags} {f : source.Body} {m : machine.Body} → FuncAlike q tag f m → FuncAlike (setting most deep) tag f m
