@@ -132,9 +132,11 @@ module _ (q : Setting) (n deep : ℕ) (fewer_calls : (i : ℕ) → i < n → Cal
           let stood = on_other refl (stood_of q l (suc depth) (within_fewer l n (suc depth) deep depth lt) stands) in
           goes_follow (setting q n deep) l (coroutine_of (store_s d) i).body args (d.script.elsewhere i) (d.code.elsewhere i) (switches d a co i fs ms)
           (λ x. fewer_calls l lt x i (waiting d.script.waits i) (d.script.elsewhere i) (d.code.elsewhere i) w.roots (switches d a co i fs ms)
-          (ok_placed q (switched_placed q n depth l (suc depth) (earlier_fewer l n (suc depth) depth lt) a fs ms ne changes (placed q o) w)
-          (suc depth, (omega (arith, lt), λ r. absurd (omega (arith, lt, r))),
-          switched_depth q n depth l (suc depth) (earlier_fewer l n (suc depth) depth lt) a ne changes (ap suc o.others.2.1) c o.rest stood))
+          (ok_placed q (switched_placed q n depth l (suc depth) (earlier_fewer l n (suc depth) depth lt) a fs ms ne changes (placed q o) w) (
+            suc depth,
+            (omega (arith, lt), λ r. absurd (omega (arith, lt, r))),
+            switched_depth q n depth l (suc depth) (earlier_fewer l n (suc depth) depth lt) a ne changes (ap suc o.others.2.1) c o.rest stood,
+          ))
           (stands_of q n deep l (λ i k le within. inl (omega (arith, le, lt))) w.stands)))
           s m es em
 
@@ -150,9 +152,11 @@ module _ (q : Setting) (n deep : ℕ) (fewer_calls : (i : ℕ) → i < n → Cal
           let stood = on_other {w = Resumes wrapped} refl (stood_of q (suc l) 0 (λ i k b. on_time l lt i k b) stands) in
           goes_follow (setting q n deep) l (coroutine_of (store_s d) i).body args fs ms (decides d a)
           (λ x. fewer_calls l lt x co (Resumes wrapped ∷ ws) fs ms ds (decides d a)
-          (ok_placed q (stayed_placed q n depth l (suc depth) (earlier_fewer l n (suc depth) depth lt) a changes (placed q o))
-          (suc depth, (omega (arith, lt), λ r. absurd (omega (arith, lt, r))),
-          stayed_depth q n depth l (suc depth) (earlier_fewer l n (suc depth) depth lt) a changes (ap suc o.others.2.1) c))
+          (ok_placed q (stayed_placed q n depth l (suc depth) (earlier_fewer l n (suc depth) depth lt) a changes (placed q o)) (
+            suc depth,
+            (omega (arith, lt), λ r. absurd (omega (arith, lt, r))),
+            stayed_depth q n depth l (suc depth) (earlier_fewer l n (suc depth) depth lt) a changes (ap suc o.others.2.1) c,
+          ))
           (stands_of q {n = suc l} {depth = 0} n deep l (λ i k le within. inl (omega (arith, le))) stood)))
           s m es em
         where

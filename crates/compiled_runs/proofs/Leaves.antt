@@ -111,6 +111,7 @@ module _ (p : Setting) (most : ℕ) (calls : (i : ℕ) → i ≤ most → CallsG
       (λ m. absurd (false_true m)) (λ m. single_by e (level.Num n) is refl) (λ m to results d. refl)
       (λ k m h l from. subst (λ (z : ℤ). OperandRuns p most e h l from from false (constant (Number z))) (same_some m)
       (constant_operand p most e (Number n) h l from (values.number_constant p.texts e n is))))
+
   text_value : (e : Expr) (t : StrId) → out-ExprKind e.kind ≡ level.Str t → (h : Here p most) (r : Runs p most b whole script h) (l : List Slot) (d : Emitter)
       → In p most b whole script h r (text_run t (length l) d) → ExprRuns p most e h l (here d) (here (text_run t (length l) d))
   text_value e t is h r l d s =

@@ -96,9 +96,11 @@ FineBehind s ps = (t : Sight) → t.scope ≡ s.scope → s.declared ≤ t.decla
 list_fine : {A : Type 0} (part : A → Part) → ((a : A) (s : Sight) → IsFine s (part a)) → ((a : A) (n : ℕ) → shows (part a) n ≡ []) → (xs : List A)
     (ps : List Part) (s : Sight) → FineBehind s ps → FineBehind s (map part xs ++ ps)
 list_fine part fine quiet [] ps s h t e le = h t e le
-list_fine part fine quiet (x ∷ xs) ps s h t e le =
-    (fine x t, list_fine part fine quiet xs ps s h (behind (part x) t)
-    (ap (λ us. t.scope ++ us) (quiet x t.declared) ∙ append-nil t.scope ∙ e) (omega (arith, le)))
+list_fine part fine quiet (x ∷ xs) ps s h t e le = (
+  fine x t,
+  list_fine part fine quiet xs ps s h (behind (part x) t)
+      (ap (λ us. t.scope ++ us) (quiet x t.declared) ∙ append-nil t.scope ∙ e) (omega (arith, le)),
+)
 
 alone_fine : {A : Type 0} (part : A → Part) → ((a : A) (s : Sight) → IsFine s (part a)) → (xs : List A) (s : Sight) → AreFine s (map part xs)
 alone_fine part fine [] s = tt
@@ -110,10 +112,15 @@ stats_fine (x ∷ ss) e s = (tt, stats_fine ss e (behind (stat x) s))
 
 loop_fine : (s : Sight) (xs : List StrId) (body : List Stat) → Sound s → (t : Sight) → t.scope ≡ s.scope → s.declared + length xs ≤ t.declared
     → AreFine t (block (visible s.declared xs) body ∷ [])
-loop_fine s xs body h t e le =
-    ((visible_under s.declared t.declared xs le, subst (λ vs. Rising (vs ++ visible s.declared xs)) (sym e)
-    (rising_both s.declared s.scope (visible s.declared xs) h.rising h.under (visible_rising s.declared xs)
-    (visible_from s.declared s.declared xs (omega arith)))), tt)
+loop_fine s xs body h t e le = (
+  (
+    visible_under s.declared t.declared xs le,
+    subst (λ vs. Rising (vs ++ visible s.declared xs)) (sym e)
+        (rising_both s.declared s.scope (visible s.declared xs) h.rising h.under (visible_rising s.declared xs)
+        (visible_from s.declared s.declared xs (omega arith))),
+  ),
+  tt,
+)
 
 plain_fine : (s : Sight) (body : List Stat) → Sound s → IsFine s (block [] body)
 plain_fine s body h = (tt, subst Rising (sym (append-nil s.scope)) h.rising)
@@ -171,9 +178,11 @@ stat_fine : (l : StatLevel) (s : Sight) → Sound s → Sound (in_stat l s).sigh
 stat_fine (level.Local xs es) s h = (with_none s _ refl (omega arith) h, alone_fine expr (λ a s. tt) es _)
 stat_fine (level.LocalFunction x f) s h = (with_new s _ (x ∷ []) refl (omega arith) h, (tt, tt))
 stat_fine (level.NumFor x a b c body) s h = (with_none s _ refl (omega arith) h, bounds_fine s x a b c body h _ refl (omega arith))
-stat_fine (level.GenFor xs es body) s h =
-    (with_none s _ refl (omega arith) h, list_fine expr (λ a s. tt) (λ a n. refl) es (block (visible s.declared xs) body ∷ [])
-    (record s { declared = s.declared + length xs }) (λ t e le. loop_fine s xs body h t e (omega (arith, le))) _ refl (omega arith))
+stat_fine (level.GenFor xs es body) s h = (
+  with_none s _ refl (omega arith) h,
+  list_fine expr (λ a s. tt) (λ a n. refl) es (block (visible s.declared xs) body ∷ [])
+      (record s { declared = s.declared + length xs }) (λ t e le. loop_fine s xs body h t e (omega (arith, le))) _ refl (omega arith),
+)
 stat_fine (level.Repeat body c) s h = (h, stats_fine body c s)
 stat_fine (level.While c body) s h = (h, (tt, (plain_fine (behind (expr c) s) body (sound_quiet (expr c) s refl h), tt)))
 stat_fine (level.StatKind::If arms other) s h = (h, arms_fine arm (λ a s. tt) (λ a n. refl) arms other s h)
