@@ -1,7 +1,6 @@
 -- Which coroutines have resumed each other, where one is resumed, left or closed.
-use Rattle.std.proofs.Common.{◌≡◌, ◌≢◌, ℕ, zero, suc, ◌<◌, ◌≤◌, List, [], ◌∷◌, ◌++◌, length, Option, Some, None, refl, sym, ap, ◌∙◌, subst, arith, ⊎_elim, length-append}
+use Rattle.std.proofs.Common.{◌≡◌, ◌≢◌, ℕ, zero, suc, ◌<◌, List, [], ◌∷◌, ◌++◌, length, Option, Some, None, refl, sym, ap, ◌∙◌, subst, arith, length-append}
 use Rattle.std.specs.Prelude.{slice_set}
-use Rattle.std.proofs.lemmas.Bool.{cases_eq}
 use Rattle.std.proofs.lemmas.List.{get_or-set_same, get_or-set_other, length-set}
 use Rattle.std.proofs.Math.ListN.{get_or-append}
 use Rattle.value_model.specs.declared.kind.CoStatus.{CoStatus}
@@ -156,7 +155,8 @@ chain_resumed s line i e c =
       omega (arith, here, length-set cs i x),
       ap (λ y. y.status) same,
       apart,
-      subst (λ y. Chain (slice_set cs i x) Normal y.resumer line) (sym same) (chain_set cs line Normal s.running i x apart (chain_turned s.coroutines line Running s.running Normal c)),
+      subst (λ y. Chain (slice_set cs i x) Normal y.resumer line) (sym same)
+          (chain_set cs line Normal s.running i x apart (chain_turned s.coroutines line Running s.running Normal c)),
     )
   where
     suspended_running : Suspended ≡ Running → ⊥

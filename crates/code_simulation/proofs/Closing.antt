@@ -1,21 +1,16 @@
 -- What calls of `coroutine` decide: a coroutine is resumed, refused, left or closed.
-use Rattle.std.proofs.Common.{Bool, true, false, ◌≡◌, ◌≢◌, ℕ, zero, suc, ◌<◌, ◌≤◌, List, [], ◌∷◌, ◌++◌, length, replicate, Option, Some, None, refl, sym, ap, ◌∙◌, subst, arith, ⊎_elim, length-append}
-use Rattle.std.specs.Prelude.{slice_get, slice_set, ◌-◌, if◌then◌else◌}
-use Rattle.std.proofs.lemmas.Bool.{cases_eq}
-use Rattle.std.proofs.lemmas.List.{get_or-set_same, get_or-set_other, length-set}
-use Rattle.value_model.specs.declared.builtin.Builtin.{Builtin}
-use Rattle.value_model.specs.declared.builtin.Builtin.TheVariants.{CoroutineClose}
-use Rattle.value_model.specs.declared.event.Reply.{Reply}
+use Rattle.std.proofs.Common.{true, false, ◌≡◌, ◌≢◌, ℕ, zero, suc, ◌<◌, List, [], ◌∷◌, ◌++◌, length, replicate, Option, Some, None, refl, sym, ap, ◌∙◌, subst, arith, length-append}
+use Rattle.std.specs.Prelude.{slice_get, ◌-◌}
+use Rattle.std.proofs.lemmas.List.{get_or-set_other, length-set}
 use Rattle.value_model.specs.declared.kind.CoStatus.{CoStatus}
 use Rattle.value_model.specs.declared.kind.CoStatus.TheVariants.{Running, Suspended, Normal, Dead}
-use Rattle.value_model.specs.Values.{Value, Nil, Boolean, Text, Native, Wrap, Thread}
-use Rattle.value_model.specs.Errors.{RunError, DeadCoroutine, NotSuspended, CloseRunning, YieldOutside, error_text}
-use Rattle.value_model.specs.Store.{Store, CoroutineOf, here, place_of_running}
-use Rattle.value_model.specs.CoroutineRows.{coroutine_of, with_coroutine, dead}
+use Rattle.value_model.specs.Values.{Value, Nil, Boolean, Text, Wrap}
+use Rattle.value_model.specs.Errors.{RunError, DeadCoroutine, NotSuspended, YieldOutside, error_text}
+use Rattle.value_model.specs.Store.{Store, CoroutineOf, place_of_running}
+use Rattle.value_model.specs.CoroutineRows.{coroutine_of, dead}
 use Rattle.value_model.specs.Waits.{Wait, Waits, waiting, with_waiting, Caller, ByScript, ByLibrary, Case, Called, Given, Passed, Gives, Calls, Throws, Fails, Waited, Continue}
 use Rattle.value_model.specs.Waits as kept
-use Rattle.value_model.specs.Answers.{Resume, Yield, Close, LibAnswer, Answers, CallsBack, Moves}
-use Rattle.value_model.specs.Library.{lib, go_on}
+use Rattle.value_model.specs.Answers.{Resume, Yield, LibAnswer}
 use Rattle.value_model.specs.Waiting.{wait, left, for_all, by_library}
 use Rattle.value_model.specs.Waiting as decision
 use Rattle.source_meaning.specs.States as source
@@ -24,27 +19,26 @@ use Rattle.source_meaning.specs.Steps as source_steps
 use Rattle.machine_meaning.specs.States as machine
 use Rattle.machine_meaning.specs.Calls as machine_calls
 use Rattle.machine_meaning.specs.Steps as machine_steps
-use Rattle.code_simulation.specs.Relation.{Dyn, store_s, store_m, Setting, Base, Desc, Ok}
-use Rattle.code_simulation.proofs.Along.{Alike, Stands, bottom, Outside, Invokes, Hands, Faults, Raises, CallsGo}
-use Rattle.code_simulation.proofs.Library.{Kept, IsClose, AnswerKeeps, library_keeps, continue_keeps}
-use Rattle.code_simulation.proofs.World.{keeps_all, ok_later}
+use Rattle.code_simulation.specs.Relation.{Dyn, store_s, store_m, Setting, Desc, Ok}
+use Rattle.code_simulation.proofs.Along.{Alike, Stands, Invokes, Hands, Faults, Raises, CallsGo}
+use Rattle.code_simulation.proofs.Library.{Kept, AnswerKeeps}
+use Rattle.code_simulation.proofs.World.{keeps_all}
 use Rattle.code_simulation.proofs.Moving.{source_goes, target_goes}
-use Rattle.code_simulation.proofs.Waiting.{stands_later, innermost_s, innermost_m}
-use Rattle.code_simulation.proofs.Deciding.{decides, base_decides, Follows, AlikeOutside, decided_same, asked_alike}
-use Rattle.code_simulation.proofs.Outside.{OutsideGo, HandsGo, RaisesGo, MoveGoes, Fair, Coroutines, called_is, given_is, passed_is, ok_kept}
-use Rattle.code_simulation.proofs.Promises.{coroutine_at, Chain, Promise, Stood, at_bottom, Waiter, OtherCoroutines, Depth, waiter_keep, setting, placed, ok_placed}
-use Rattle.code_simulation.proofs.Chains.{of_is, with_is, with_running, unwritten, dead_written, is_there, apart_by, chain_set, chain_more}
-use Rattle.code_simulation.proofs.Switching.{put_here_s, put_there_s, put_here_m, put_there_m, hands_end, raises_end}
+use Rattle.code_simulation.proofs.Deciding.{decides, AlikeOutside, decided_same, asked_alike}
+use Rattle.code_simulation.proofs.Outside.{OutsideGo, HandsGo, RaisesGo, MoveGoes, Fair, called_is, given_is, passed_is, ok_kept}
+use Rattle.code_simulation.proofs.Promises.{coroutine_at, Chain, Promise, OtherCoroutines, waiter_keep, setting}
+use Rattle.code_simulation.proofs.Chains.{of_is, chain_more}
+use Rattle.code_simulation.proofs.Switching.{hands_end, raises_end}
 use Rattle.code_simulation.proofs.Resuming.{resume_goes, leave_goes}
 
 -- ---- nothing waits in a coroutine any longer
 
-emptied_here : (ws : Waits) (i : ℕ) → waiting (with_waiting ws i []) i ≡ []
+pub emptied_here : (ws : Waits) (i : ℕ) → waiting (with_waiting ws i []) i ≡ []
 emptied_here [] i = refl
 emptied_here (w ∷ ws) zero = refl
 emptied_here (w ∷ ws) (suc i) = emptied_here ws i
 
-emptied_other : (ws : Waits) (i j : ℕ) → j ≢ i → waiting (with_waiting ws i []) j ≡ waiting ws j
+pub emptied_other : (ws : Waits) (i j : ℕ) → j ≢ i → waiting (with_waiting ws i []) j ≡ waiting ws j
 emptied_other ws i j ne = get_or-set_other ws i j [] [] ne
 
 -- more coroutines, in which nothing waits
@@ -89,7 +83,7 @@ others_kept {line = line} {co = co} {d = d} {t = t} vs k c =
     }
 
 module _ (q : Setting) (n deep : ℕ) where
-  fair_of : {turns co : ℕ} {ws : List Wait} {ds : List Desc} {d : Dyn} (x : LibAnswer) → AnswerKeeps (store_s d) x
+  pub fair_of : {turns co : ℕ} {ws : List Wait} {ds : List Desc} {d : Dyn} (x : LibAnswer) → AnswerKeeps (store_s d) x
       → Ok (setting q n deep) turns co ws ds d → Fair (setting q n deep) turns co x d
   fair_of {d = d} x keeps o = record {
     answers = λ vs t e.
@@ -113,7 +107,7 @@ none_first_m {d = d} o =
 
 module _ (q : Setting) (n deep : ℕ) (fewer_calls : (i : ℕ) → i < n → CallsGo (setting q n deep) i)
     (shorter : (k : ℕ) → k < deep → CallsGo (setting q n k) n) where
-  faults : {ws : List Wait} → RaisesGo (setting q n deep) n ws → (e : RunError) → OutsideGo (setting q n deep) n (Faults e) ws
+  pub faults : {ws : List Wait} → RaisesGo (setting q n deep) n ws → (e : RunError) → OutsideGo (setting q n deep) n (Faults e) ws
   faults raises e co fs ms ds d o stands =
       source_goes q refl (target_goes q refl (raises (Text (error_text e)) co fs ms ds d o stands))
 
@@ -139,7 +133,7 @@ module _ (q : Setting) (n deep : ℕ) (fewer_calls : (i : ℕ) → i < n → Cal
 
   -- ---- resume
 
-  resumes : (i : ℕ) (args : List Value) (ws : List Wait) → HandsGo (setting q n deep) n ws → RaisesGo (setting q n deep) n ws
+  pub resumes : (i : ℕ) (args : List Value) (ws : List Wait) → HandsGo (setting q n deep) n ws → RaisesGo (setting q n deep) n ws
       → MoveGoes (setting q n deep) n (Resume i args) ws
   resumes i args ws hands raises co fs ms ds d o stands s m es em = by (coroutine_of (store_s d) i).status refl
     where
@@ -170,7 +164,7 @@ module _ (q : Setting) (n deep : ℕ) (fewer_calls : (i : ℕ) → i < n → Cal
   wraps_by i args ws raises co fs ms ds d o stands s m Running e es em = fails_goes NotSuspended ws raises co fs ms ds d o stands s m es em
   wraps_by i args ws raises co fs ms ds d o stands s m Normal e es em = fails_goes NotSuspended ws raises co fs ms ds d o stands s m es em
 
-  wraps : (by : Caller) (i : ℕ) (vs : List Value) (ws : List Wait) → RaisesGo (setting q n deep) n ws
+  pub wraps : (by : Caller) (i : ℕ) (vs : List Value) (ws : List Wait) → RaisesGo (setting q n deep) n ws
       → OutsideGo (setting q n deep) n (Invokes by (Wrap i) vs) ws
   wraps by i vs ws raises co fs ms ds d o stands =
       let c = Called by (Wrap i) vs in
@@ -182,7 +176,7 @@ module _ (q : Setting) (n deep : ℕ) (fewer_calls : (i : ℕ) → i < n → Cal
 
   -- ---- yield, and the end of a coroutine
 
-  yields : (vs : List Value) (ws : List Wait) → RaisesGo (setting q n deep) n ws → MoveGoes (setting q n deep) n (Yield vs) ws
+  pub yields : (vs : List Value) (ws : List Wait) → RaisesGo (setting q n deep) n ws → MoveGoes (setting q n deep) n (Yield vs) ws
   yields vs ws raises co fs ms ds d o stands s m es em = by (store_s d).running refl
     where
       by : (r : Option ℕ) → (store_s d).running ≡ r → Alike q n s m
@@ -202,7 +196,7 @@ module _ (q : Setting) (n deep : ℕ) (fewer_calls : (i : ℕ) → i < n → Cal
     it_runs : i ≡ co
     it_runs = sym (ap place_of_running running) ∙ o.running
 
-    ends : (vs : List Value) → AlikeOutside (setting q n deep) n (Hands vs) fs ms d
+    pub ends : (vs : List Value) → AlikeOutside (setting q n deep) n (Hands vs) fs ms d
     ends vs =
         let is = given_is vs (slice_get d.script.replies 0) d.script.waits (store_s d)
         ∙ ap (λ k. decision.given (waiting d.script.waits k) vs d.script.waits (store_s d)) o.running
@@ -216,7 +210,7 @@ module _ (q : Setting) (n deep : ℕ) (fewer_calls : (i : ℕ) → i < n → Cal
         (ap (λ x. machine_calls.hand q.chunk (machine_calls.is_function x) vs ms d.code) (none_first_m o)
         ∙ ap (λ b. machine_calls.decided q.chunk b ms d.code) (asked_alike (setting q n deep) (Given vs) d o.base ∙ is))
 
-    dies : (v : Value) → AlikeOutside (setting q n deep) n (Raises v) fs ms d
+    pub dies : (v : Value) → AlikeOutside (setting q n deep) n (Raises v) fs ms d
     dies v =
         let is = passed_is v (slice_get d.script.replies 0) d.script.waits (store_s d)
         ∙ ap (λ k. decision.passed (waiting d.script.waits k) v d.script.waits (store_s d)) o.running

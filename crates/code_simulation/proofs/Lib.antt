@@ -10,6 +10,7 @@ pub mod Chains
 pub mod Switching
 pub mod Resuming
 pub mod Closing
+pub mod Coroutines
 pub mod Moving
 pub mod Waiting
 pub mod Registers

@@ -363,7 +363,10 @@ module _ (s : Store) where
   joins t sep k (suc count) front = by (as_text (tables.item t k)) (λ bs. joins t sep (k +ℤ pos 1) count (Some (table.joined_with sep front bs)))
     where
       by : (o : Option Bytes) → ((bs : Bytes) → Holds s (table.joins s t sep (k +ℤ pos 1) count (Some (table.joined_with sep front bs))))
-          → Holds s (elim o [ None ↦ ErrsWith (InvalidElement (kind_of (tables.item t k)) k) | Some bs ↦ table.joins s t sep (k +ℤ pos 1) count (Some (table.joined_with sep front bs)) ])
+          → Holds s (elim o [
+            | None ↦ ErrsWith (InvalidElement (kind_of (tables.item t k)) k)
+            | Some bs ↦ table.joins s t sep (k +ℤ pos 1) count (Some (table.joined_with sep front bs))
+          ])
       by None h = record { holds = tt }
       by (Some bs) h = h bs
 

@@ -18,7 +18,7 @@ use Rattle.machine_meaning.specs.States as machine
 use Rattle.machine_meaning.specs.Calls as machine_calls
 use Rattle.code_simulation.specs.Slots.{Tags}
 use Rattle.code_simulation.specs.Relation.{Dyn, store_s, Keeps, Around, Setting, Code, FuncAlike, Base, Desc, AllRest, Ok}
-use Rattle.code_simulation.proofs.Along.{Alike, GivesOn, Stands, bottom, function, other}
+use Rattle.code_simulation.proofs.Along.{Alike, Stands, bottom, function, other}
 use Rattle.code_simulation.proofs.World.{fits_keep, ups_keep}
 
 -- ---- those that have resumed each other
@@ -245,12 +245,12 @@ module _ (q : Setting) where
 
   -- ---- where the stores fit in the one they do in the other
 
-  code_there : {most deep number : ℕ} {func : FuncBody} {outer : source.Environment} {ups : List StrId} {proto : ProtoOf} → Code q func number outer ups proto
-      → Code (setting most deep) func number outer ups proto
+  pub code_there : {most deep number : ℕ} {func : FuncBody} {outer : source.Environment} {ups : List StrId} {proto : ProtoOf}
+      → Code q func number outer ups proto → Code (setting most deep) func number outer ups proto
   code_there c = record { found = c.found; params = c.params; vararg = c.vararg; upvalues = c.upvalues; code = c.code }
 
-  code_here : {most deep number : ℕ} {func : FuncBody} {outer : source.Environment} {ups : List StrId} {proto : ProtoOf} → Code (setting most deep) func number outer ups proto
-      → Code q func number outer ups proto
+  code_here : {most deep number : ℕ} {func : FuncBody} {outer : source.Environment} {ups : List StrId} {proto : ProtoOf}
+      → Code (setting most deep) func number outer ups proto → Code q func number outer ups proto
   code_here c = record { found = c.found; params = c.params; vararg = c.vararg; upvalues = c.upvalues; code = c.code }
 
   func_there : {most deep : ℕ} {tag : Tags} {f : source.Body} {m : machine.Body} → FuncAlike q tag f m → FuncAlike (setting most deep) tag f m

@@ -1,15 +1,14 @@
 -- A coroutine is resumed, or the one that runs is left for the one that has resumed it: both go on along with their code.
-use Rattle.std.proofs.Common.{Bool, true, false, ◌≡◌, ◌≢◌, ℕ, zero, suc, ◌<◌, ◌≤◌, List, [], ◌∷◌, length, Option, Some, None, refl, sym, ap, ◌∙◌, subst, arith, ⊎_elim, inl, inr}
+use Rattle.std.proofs.Common.{Bool, ◌≡◌, ◌≢◌, ℕ, suc, ◌<◌, ◌≤◌, List, [], ◌∷◌, length, Option, Some, None, refl, sym, ap, ◌∙◌, subst, arith, ⊎_elim, inl, inr}
 use Rattle.std.specs.Prelude.{slice_set}
 use Rattle.std.proofs.lemmas.Bool.{cases_eq}
 use Rattle.std.proofs.lemmas.List.{length-set}
 use Rattle.value_model.specs.declared.kind.CoStatus.{CoStatus}
 use Rattle.value_model.specs.declared.kind.CoStatus.TheVariants.{Running, Suspended, Normal, Dead}
-use Rattle.value_model.specs.Values.{Value, Nil, Boolean, Text}
-use Rattle.value_model.specs.Errors.{RunError, DeadCoroutine, NotSuspended, error_text}
+use Rattle.value_model.specs.Values.{Value, Nil}
 use Rattle.value_model.specs.Store.{CoroutineOf, here, place_of_running}
 use Rattle.value_model.specs.CoroutineRows.{coroutine_of}
-use Rattle.value_model.specs.Waits.{Wait, Resumes, Waits, waiting, await, ByLibrary, Answer, Gives, Throws, Fails}
+use Rattle.value_model.specs.Waits.{Wait, Resumes, Waits, waiting, ByLibrary, Answer}
 use Rattle.value_model.specs.Waiting.{left}
 use Rattle.value_model.specs.Waiting as decision
 use Rattle.source_meaning.specs.States as source
@@ -19,12 +18,11 @@ use Rattle.machine_meaning.specs.States as machine
 use Rattle.machine_meaning.specs.Calls as machine_calls
 use Rattle.machine_meaning.specs.Steps as machine_steps
 use Rattle.code_simulation.specs.Relation.{Dyn, store_s, Setting, Base, Desc, Ok}
-use Rattle.code_simulation.proofs.Along.{Alike, Stands, Outside, Invokes, Hands, Faults, CallsGo}
-use Rattle.code_simulation.proofs.Moving.{source_goes, target_goes}
+use Rattle.code_simulation.proofs.Along.{Alike, Stands, Outside, Invokes, Hands, CallsGo}
 use Rattle.code_simulation.proofs.Deciding.{decides, base_decides, Follows, AlikeOutside, decided_same}
-use Rattle.code_simulation.proofs.Outside.{HandsGo, RaisesGo, waiting_more, waiting_more_others, ok_kept}
-use Rattle.code_simulation.proofs.Promises.{coroutine_at, Promise, Chain, Stood, on_other, OtherCoroutines, Before, Within, promised, setting, placed, ok_placed, stood_of, stands_of}
-use Rattle.code_simulation.proofs.Chains.{turned, of_is, resumed_one, resumed_is, left_is, left_running, written, unwritten, is_there, length_turned, turned_other, chain_resumed, chain_left}
+use Rattle.code_simulation.proofs.Outside.{waiting_more, waiting_more_others}
+use Rattle.code_simulation.proofs.Promises.{coroutine_at, Promise, Chain, on_other, OtherCoroutines, Before, Within, promised, setting, placed, ok_placed, stood_of, stands_of}
+use Rattle.code_simulation.proofs.Chains.{turned, resumed_one, resumed_is, left_is, left_running, written, unwritten, is_there, length_turned, turned_other, chain_resumed, chain_left}
 use Rattle.code_simulation.proofs.Switching.{switches, base_switches, switched_same, Changes, switched_depth, stayed_depth, switched_placed, stayed_placed}
 
 running_dead : {A : Type 0} → Running ≡ Dead → A
@@ -46,8 +44,8 @@ turned_alive status (Some k) cs ne alive e =
 
 -- ---- a coroutine that waits is resumed
 
-resume_changes : {p : Setting} {R : Promise} {turns co : ℕ} {ws : List Wait} {ds : List Desc} {d : Dyn} {line : List ℕ} → (wrapped : Bool) (i : ℕ) (args : List Value)
-    → (coroutine_at (store_s d).coroutines i).status ≡ Suspended → Ok p turns co ws ds d → OtherCoroutines R line co d
+resume_changes : {p : Setting} {R : Promise} {turns co : ℕ} {ws : List Wait} {ds : List Desc} {d : Dyn} {line : List ℕ}
+    → (wrapped : Bool) (i : ℕ) (args : List Value) → (coroutine_at (store_s d).coroutines i).status ≡ Suspended → Ok p turns co ws ds d → OtherCoroutines R line co d
     → Changes d (decision.resume_it wrapped i args d.script.waits (store_s d)) co i (Resumes wrapped ∷ ws) (i ∷ line)
 resume_changes {co = co} {ws = ws} {d = d} {line = line} wrapped i args e o c =
     let s = store_s d in

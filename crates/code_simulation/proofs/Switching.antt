@@ -1,8 +1,7 @@
 -- Another coroutine runs behind a decision: both states, and how its functions go on where those of the one that ran wait.
-use Rattle.std.proofs.Common.{true, false, ◌≡◌, ◌≢◌, ℕ, ◌<◌, ◌≤◌, List, [], ◌∷◌, length, None, refl, sym, ap, ◌∙◌, subst, arith, cond, ⊎_elim}
+use Rattle.std.proofs.Common.{false, ◌≡◌, ◌≢◌, ℕ, ◌<◌, ◌≤◌, List, [], length, None, refl, sym, ap, ◌∙◌, subst, cond, ⊎_elim}
 use Rattle.std.specs.Prelude.{nat_eq, slice_get}
 use Rattle.std.proofs.lemmas.Bool.{eq-eqb, ne_eqb, cases_eq}
-use Rattle.value_model.specs.declared.event.Reply.{Reply}
 use Rattle.value_model.specs.declared.kind.CoStatus.TheVariants.{Running, Dead}
 use Rattle.value_model.specs.Values.{Value}
 use Rattle.value_model.specs.Store.{here, place_of_running}
@@ -143,7 +142,7 @@ module _ (p : Setting) where
 
 -- ---- the coroutines behind a decision
 
-waiter_as : {R : Promise} {j : ℕ} {ws : List Wait} {fs : List source.Activation} {ms : List machine.Frame} {ds : List Desc} → (d : Dyn)
+pub waiter_as : {R : Promise} {j : ℕ} {ws : List Wait} {fs : List source.Activation} {ms : List machine.Frame} {ds : List Desc} → (d : Dyn)
     → AllRest j d.tag ds → waiting d.script.waits j ≡ ws → d.script.elsewhere j ≡ fs → d.code.elsewhere j ≡ ms → Stood R j ws fs ms ds → Waiter R j d
 waiter_as {R} {j} {ws} {fs} {ms} {ds} d rest waits script code s = record {
   roots = ds;

@@ -1,15 +1,15 @@
--- From the functions of a script to its run: each run of the script is that of its code.
-use Rattle.std.proofs.Common.{Bool, true, false, not, ◌&&◌, ◌||◌, ◌≡◌, ℕ, zero, suc, ◌<◌, ◌≤◌, List, [], ◌∷◌, ◌++◌, length, Some, refl, sym, ap, ◌∙◌, subst, arith, ⊎_elim}
+-- From the functions of a script to its run: where each function goes along with its code, each run of the script is that of its code.
+use Rattle.std.proofs.Common.{Bool, true, false, not, ◌&&◌, ◌||◌, ◌≡◌, ◌≢◌, ℕ, zero, suc, ◌<◌, ◌≤◌, List, [], ◌∷◌, ◌++◌, length, Some, refl, sym, ap, ◌∙◌, subst, arith}
 use Rattle.std.specs.Prelude.{slice_get, take}
-use Rattle.std.proofs.lemmas.Bool.{cases_eq}
 use Rattle.syntax_tree.specs.declared.tree.FuncBody.{out-FuncBody}
 use Rattle.syntax_tree.specs.declared.tree.Tree.{Tree}
 use Rattle.value_model.specs.declared.event.EventKind.{EventKind}
 use Rattle.value_model.specs.declared.event.Reply.{Reply}
+use Rattle.value_model.specs.declared.kind.CoStatus.TheVariants.{Suspended, Dead}
 use Rattle.value_model.specs.Values.{Value}
 use Rattle.value_model.specs.Store.{here, same_table, script_environment}
-use Rattle.value_model.specs.Fresh.{HostFields, fresh}
-use Rattle.value_model.specs.Waits.{Runs}
+use Rattle.value_model.specs.Fresh.{HostFields, fresh, first_waits}
+use Rattle.value_model.specs.Waits.{Wait, Runs, waiting}
 use Rattle.bounded_runs.specs.Runs.{Report, Agree}
 use Rattle.bounded_runs.proofs.Together as together
 use Rattle.source_meaning.specs.States as source
@@ -24,11 +24,14 @@ use Rattle.machine_meaning.specs.Moves as machine_moves
 use Rattle.machine_meaning.specs.Calls as machine_calls
 use Rattle.machine_meaning.specs.Runs.{loaded, MachineRun}
 use Rattle.code_simulation.specs.Slots.{Nobody, Of, Taken}
-use Rattle.code_simulation.specs.Relation.{Dyn, bodies_s, bodies_m, Setting, Code, FuncAlike, Base, Ok}
-use Rattle.code_simulation.proofs.Along.{Alike, CallsGo, bottom}
+use Rattle.code_simulation.specs.Relation.{Dyn, bodies_s, bodies_m, Setting, Code, FuncAlike, Base, Desc, Ok}
+use Rattle.code_simulation.proofs.Along.{Alike, Stands, CallsGo, bottom, function, other}
 use Rattle.code_simulation.proofs.Names.{same_some, none_some}
 use Rattle.code_simulation.proofs.Entering.{FuncsGo, entered_s, entered_m}
-use Rattle.code_simulation.proofs.Outside.{Coroutines, calls_go}
+use Rattle.code_simulation.proofs.Outside.{calls_go}
+use Rattle.code_simulation.proofs.Promises.{Promise, at_bottom, OtherCoroutines, Within, promised, Others, setting, code_there, placed, ok_placed}
+use Rattle.code_simulation.proofs.Switching.{waiter_as}
+use Rattle.code_simulation.proofs.Coroutines.{coroutines}
 
 -- ---- both states at the start
 
@@ -145,39 +148,94 @@ module _ (p : Setting) (tree : Tree) (host : HostFields) (replies : List Reply) 
       (subst (λ m. Alike p n (entered_s tree.main [] 0 [] [] (first_dyn p tree host replies)) m) (sym (first_m e))
       (funcs tree.main p.chunk.main [] [] proto code [] 0 [] 0 [] [] [] [] (first_dyn p tree host replies) (first_ok n others) tt bottom))
 
--- ---- by the turns that are left
+-- ---- by the turns that are left, and by the coroutines that have resumed each other
 
-module _ (p : Setting) (laws : (i : ℕ) → Coroutines p i) (bodies : (i : ℕ) → ((j : ℕ) → j ≤ i → CallsGo p j) → FuncsGo p i) where
-  both_below : (n i : ℕ) → i < n → CallsGo p i × FuncsGo p i
-  both_below zero i lt = absurd (omega (arith, lt))
-  both_below (suc n) i lt =
-      let go : CallsGo p i = calls_go p i (laws i) (λ j lt2. (both_below n j (omega (arith, lt, lt2))).0)
-      (λ j lt2. (both_below n j (omega (arith, lt, lt2))).1) in
-      (go, bodies i (λ j le. ⊎_elim (λ e. subst (CallsGo p) (sym e) go) (λ ne. (both_below n j (omega (arith, lt, le, ne))).0) (cases_eq j i)))
+-- what goes on where as many have resumed each other as now does where more may have
+stands_within : {q : Setting} {most deep i depth co : ℕ} {ws : List Wait} {fs : List source.Activation} {ms : List machine.Frame} {ds : List Desc}
+    → ((j k : ℕ) → j ≤ i → Within i depth j k → Within most deep j k) → Stands (setting q most deep) i co ws fs ms ds
+    → Stands (setting q i depth) i co ws fs ms ds
+stands_within le bottom = bottom
+stands_within {q} le (function go s) =
+    function (λ j lt vs d o. go j lt vs d (ok_placed q (placed q o) (o.others.0, le j o.others.0 lt o.others.1, o.others.2))) (stands_within le s)
+stands_within le (other e s) = other e (stands_within le s)
+
+calls_within : (q : Setting) (most deep i : ℕ) → i ≤ most → ((k : ℕ) → CallsGo (setting q i k) i) → CallsGo (setting q most deep) i
+calls_within q most deep i le calls x co ws fs ms ds d o stands =
+    let depth = o.others.0 in
+    calls depth x co ws fs ms ds d (ok_placed q (placed q o) (depth, (omega arith, λ e. omega arith), o.others.2))
+    (stands_within (λ j k lt w. (
+      omega (arith, lt, le),
+      λ e.
+          let a = w.1 (omega (arith, e, lt, le)) in
+          let b = o.others.1.1 (omega (arith, e, lt, le)) in
+          omega (arith, a, b),
+    )) stands)
+
+module _ (q : Setting) (bodies : (most deep i : ℕ) → ((j : ℕ) → j ≤ i → CallsGo (setting q most deep) j) → FuncsGo (setting q most deep) i) where
+  -- with as many turns left, where all does with fewer
+  by_depth : (n : ℕ) → ((i k : ℕ) → i < n → CallsGo (setting q i k) i) → (deep k : ℕ) → k < deep → CallsGo (setting q n k) n
+  by_depth n less zero k lt = absurd (omega (arith, lt))
+  by_depth n less (suc deep) k lt =
+      let fewer : (i : ℕ) → i < n → CallsGo (setting q n k) i = λ i l. calls_within q n k i (omega (arith, l)) (λ j. less i j l) in
+      calls_go (setting q n k) n (coroutines q n k fewer (λ j l. by_depth n less deep j (omega (arith, lt, l)))) fewer
+      (λ i l. bodies n k i (λ j le. fewer j (omega (arith, le, l))))
+
+  by_turns : (n i k : ℕ) → i < n → CallsGo (setting q i k) i
+  by_turns zero i k lt = absurd (omega (arith, lt))
+  by_turns (suc n) i k lt = by_depth i (λ j l lt2. by_turns n j l (omega (arith, lt, lt2))) (suc k) k (omega arith)
 
   -- with any number of turns left calls go along, and functions that are entered do
-  pub all_calls : (n : ℕ) → CallsGo p n
-  all_calls n = (both_below (suc n) n (omega arith)).0
+  pub all_calls : (most deep i : ℕ) → i ≤ most → CallsGo (setting q most deep) i
+  all_calls most deep i le = calls_within q most deep i le (λ k. by_turns (suc i) i k (omega arith))
 
-  pub all_functions : (n : ℕ) → FuncsGo p n
-  all_functions n = (both_below (suc n) n (omega arith)).1
+  pub all_functions : (most deep i : ℕ) → i ≤ most → FuncsGo (setting q most deep) i
+  all_functions most deep i le = bodies most deep i (λ j l. all_calls most deep j (omega (arith, l, le)))
 
-module _ (p : Setting) (laws : (i : ℕ) → Coroutines p i) (bodies : (i : ℕ) → ((j : ℕ) → j ≤ i → CallsGo p j) → FuncsGo p i) (tree : Tree)
-    (host : HostFields) (replies : List Reply) (proto : ProtoOf) (code : Code p tree.main p.chunk.main [] [] proto)
-    (no_parameter : (out-FuncBody tree.main).params ≡ []) (others : (n : ℕ) → p.Others n 0 (first_dyn p tree host replies)) where
-  go_along : (n : ℕ) → Alike p n (start tree host replies) (loaded p.chunk host replies)
-  go_along n = main_same p tree host replies proto code n no_parameter (others n) (all_functions p laws bodies n)
+-- ---- nothing waits in another coroutine at the start
+
+none_at_first : (j : ℕ) → j ≢ 0 → waiting first_waits j ≡ []
+none_at_first zero ne = absurd (ne refl)
+none_at_first (suc j) ne = refl
+
+suspended_dead : Suspended ≡ Dead → ⊥
+suspended_dead e = cc
+
+first_coroutines : (q : Setting) (tree : Tree) (host : HostFields) (replies : List Reply) (R : Promise)
+    → OtherCoroutines R [] 0 (first_dyn q tree host replies)
+unfolding fresh
+first_coroutines q tree host replies R = record {
+  enough = omega arith;
+  chain = tt;
+  alive = suspended_dead;
+  waiters = λ j ne. waiter_as {R = R} {j = j} (first_dyn q tree host replies) tt (none_at_first j ne) refl refl at_bottom;
+  empty = λ j ne e. none_at_first j ne;
+}
+
+pub first_others : (q : Setting) (tree : Tree) (host : HostFields) (replies : List Reply) (most deep n : ℕ) → n ≤ most
+    → Others q most deep n 0 (first_dyn q tree host replies)
+first_others q tree host replies most deep n le =
+    (0, (le, λ e. omega arith), ([], refl, first_coroutines q tree host replies (promised q n 0)))
+
+-- ---- the run of a script, where each function goes along with its code
+
+module _ (q : Setting) (bodies : (most deep i : ℕ) → ((j : ℕ) → j ≤ i → CallsGo (setting q most deep) j) → FuncsGo (setting q most deep) i)
+    (tree : Tree) (host : HostFields) (replies : List Reply) (proto : ProtoOf) (code : Code q tree.main q.chunk.main [] [] proto)
+    (no_parameter : (out-FuncBody tree.main).params ≡ []) where
+  go_along : (n : ℕ) → Alike q n (start tree host replies) (loaded q.chunk host replies)
+  go_along n =
+      main_same (setting q n 0) tree host replies proto (code_there q code) n no_parameter (first_others q tree host replies n 0 n (omega arith))
+      (all_functions q bodies n 0 n (omega arith))
 
   -- each report of the script is one of its code
-  pub to_code : (n : ℕ) (r : Report EventKind source_moves.Look) → SourceRun p.texts tree host replies n r
-      → (q : Report EventKind machine_moves.Look) × MachineRun p.chunk host replies n q × Agree (λ look. 1) (λ look. 1) r q
+  pub to_code : (n : ℕ) (r : Report EventKind source_moves.Look) → SourceRun q.texts tree host replies n r
+      → (r' : Report EventKind machine_moves.Look) × MachineRun q.chunk host replies n r' × Agree (λ look. 1) (λ look. 1) r r'
   to_code n r run = together.to_other _ _ _ _ _ _ _ _ _ n _ _ (go_along n) r run
 
   -- each report of the code is one of the script
-  pub to_source : (n : ℕ) (q : Report EventKind machine_moves.Look) → MachineRun p.chunk host replies n q
-      → (r : Report EventKind source_moves.Look) × SourceRun p.texts tree host replies n r × Agree (λ look. 1) (λ look. 1) r q
-  to_source n q run = together.to_one _ _ _ _ _ _ _ _ _ n _ _ (go_along n) q run
+  pub to_source : (n : ℕ) (r' : Report EventKind machine_moves.Look) → MachineRun q.chunk host replies n r'
+      → (r : Report EventKind source_moves.Look) × SourceRun q.texts tree host replies n r × Agree (λ look. 1) (λ look. 1) r r'
+  to_source n r' run = together.to_one _ _ _ _ _ _ _ _ _ n _ _ (go_along n) r' run
 
   -- and there is one
-  pub ends : (n : ℕ) → (r : Report EventKind source_moves.Look) × SourceRun p.texts tree host replies n r
+  pub ends : (n : ℕ) → (r : Report EventKind source_moves.Look) × SourceRun q.texts tree host replies n r
   ends n = together.has_report _ _ _ _ _ _ _ _ _ n _ _ (go_along n)
