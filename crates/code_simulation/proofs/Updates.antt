@@ -1,6 +1,6 @@
--- Local functions, and compound assignments to local variables.
-use Rattle.std.proofs.Common.{Bool, true, false, ◌≡◌, ℕ, suc, ◌≤◌, pos, List, [], ◌∷◌, ◌++◌, length, Some, refl, sym, ap, ◌∙◌, subst, arith, cond}
-use Rattle.std.specs.Prelude.{slice_set}
+-- Local functions, and compound assignments to names.
+use Rattle.std.proofs.Common.{Bool, true, false, ◌≡◌, ℕ, suc, ◌≤◌, pos, List, [], ◌∷◌, ◌++◌, length, Option, Some, None, refl, sym, ap, ◌∙◌, subst, arith, cond}
+use Rattle.std.specs.Prelude.{slice_get, slice_set, slice_index_or}
 use Rattle.std.proofs.lemmas.Bool.{eq-eqb}
 use Rattle.byte_text.specs.declared.fixed.StrId.{StrId}
 use Rattle.syntax_tree.specs.declared.tree.BinOp.{BinOp}
@@ -10,24 +10,30 @@ use Rattle.syntax_tree.specs.declared.tree.ExprKind.TheOpen as level
 use Rattle.syntax_tree.specs.declared.tree.FuncBody.{FuncBody}
 use Rattle.syntax_tree.specs.declared.tree.Stat.{Stat}
 use Rattle.syntax_tree.specs.declared.tree.StatKind.{out-StatKind}
-use Rattle.value_model.specs.Values.{Value, Closure}
-use Rattle.value_model.specs.Choices.{Operation}
+use Rattle.value_model.specs.Values.{Value, Text, Table, Closure}
+use Rattle.value_model.specs.Store.{environment_of}
+use Rattle.value_model.specs.Choices.{Operation, Index}
+use Rattle.value_model.specs.Metamethods.{choose}
 use Rattle.source_meaning.specs.Levels.{ExprLevel}
 use Rattle.source_meaning.specs.States.{Node, Target, ToCell, of_expr, of_stat, cell_of}
 use Rattle.source_meaning.specs.States as source
 use Rattle.source_meaning.specs.Moves as source_moves
+use Rattle.source_meaning.specs.Expressions.{text_of}
 use Rattle.source_meaning.specs.Statements as statements
+use Rattle.source_meaning.specs.Steps as source_steps
 use Rattle.op_words.specs.declared.insn.Insn.TheVariants as insn
 use Rattle.op_words.specs.Chunks.{ProtoOf}
+use Rattle.machine_meaning.specs.Constants.{name_at}
 use Rattle.machine_meaning.specs.States.{Val, held}
 use Rattle.machine_meaning.specs.States as machine
 use Rattle.machine_meaning.specs.Moves as machine_moves
+use Rattle.machine_meaning.specs.Effects as effects
 use Rattle.code_simulation.specs.Slots.{Slot, Var, Temp, Local, local_at}
-use Rattle.code_simulation.specs.Relation.{at, Dyn, cells_s, cells_m, store_s, Setting}
-use Rattle.code_simulation.proofs.Along.{Alike, CallsGo, File, Here, inside, env_of, Reads, source_at, machine_at, Has, Same}
+use Rattle.code_simulation.specs.Relation.{at, Dyn, cells_s, cells_m, store_s, store_m, Setting}
+use Rattle.code_simulation.proofs.Along.{Alike, CallsGo, File, Here, inside, frame, env_of, Reads, source_at, machine_at, Has, Same}
 use Rattle.code_simulation.proofs.Parts.{Sight, over, in_register, OperandRuns, Stays, Operates}
-use Rattle.code_simulation.proofs.Names.{look_in, steady_all}
-use Rattle.code_simulation.proofs.World.{claim, pop, top_is, read, read_plain}
+use Rattle.code_simulation.proofs.Names.{look_in, look_out, steady_all}
+use Rattle.code_simulation.proofs.World.{claim, pop, top_is, read, read_plain, read_up}
 use Rattle.code_simulation.proofs.Changes.{source_more, declare}
 use Rattle.code_simulation.proofs.Moving.{source_goes, target_goes}
 use Rattle.code_simulation.proofs.Registers.{row_here, given}
@@ -166,3 +172,57 @@ module _ (p : Setting) (most : ℕ) (calls : (i : ℕ) → i ≤ most → CallsG
       (λ i lt u d2 file2 w2 steady.
       updates (of_stat s) o operation b x true (in_register (length l)) own2 sees2 h l mid last next to i (omega (arith, le, lt)) k u d2 file2 is w2
       (top_is w2) (own_stays p most h l) b_runs operates writes room (λ n lt2. go n (omega (arith, lt, lt2)) 0))))
+
+  -- the script aims at a name that is to be assigned, and reads what it means
+  reads_name : (s : Stat) (o : BinOp) (t b : Expr) (x : StrId) (c : Option ℕ) (h : Here p most) (l : List Slot) (left : ℕ) (k : List source.Frame)
+      (d : Dyn) (m : machine.State) → out-StatKind s.kind ≡ level.Compound o t b → out-ExprKind t.kind ≡ level.Name x
+      → cell_of (env_of p most h l) x ≡ c
+      → ((s2 : source.State) → source_steps.step p.texts s2 ≡ statements.read p.texts (statements.target_of c x) (of_stat s) (inside p most h)
+      (source.Reads (of_stat s) o (statements.target_of (cell_of (env_of p most h l) x) x) b ∷ k) (env_of p most h l) d.script → Alike p left s2 m)
+      → Alike p left (source_at p most h (source.Execute s) k (env_of p most h l) d) m
+  reads_name s o t b x c h l left k d m kind name found go =
+      source_goes p (stat_row p most s _ h l k d kind)
+      (source_goes p (ap (λ (y : ExprLevel). statements.aim y (of_expr t) (inside p most h) (source.Updates (of_stat s) o b ∷ k)
+      (env_of p most h l) d.script) name)
+      (go _ (ap (λ c. statements.read p.texts (statements.target_of c x) (of_stat s) (inside p most h)
+      (source.Reads (of_stat s) o (statements.target_of (cell_of (env_of p most h l) x) x) b ∷ k) (env_of p most h l) d.script) found)))
+
+  -- a compound assignment to an upvalue
+  pub compound_upvalue : (s : Stat) (o : BinOp) (operation : Value → Value → Operation) (t b : Expr) (x : StrId) (u : ℕ) (own2 : Bool)
+      (sees2 : Sight) (h : Here p most) (l : List Slot) (j : Jumps) (from mid last next to : ℕ) → IsOperation o operation (source.Wants source.One)
+      → out-StatKind s.kind ≡ level.Compound o t b → out-ExprKind t.kind ≡ level.Name x → local_at l x ≡ None → slice_get h.act.ups u ≡ Some x
+      → Reads p most h from (insn.GetUpvalue (length l) u) mid → ((v : Value) → OperandRuns p most b h (Temp v ∷ l) mid last own2 sees2)
+      → Operates p most h last operation (in_register (length l)) sees2 (length l) next → Writes p most h l x (length l) next to
+      → suc (length l) ≤ h.proto.registers → StatRuns p most s h l j from to (λ c. l)
+  compound_upvalue s o operation t b x u own2 sees2 h l j from mid last next to is kind name out up reads b_runs operates writes room left le k d file w ways go =
+      let c = read_up x u up w in
+      let after = source.Reads (of_stat s) o (statements.target_of (cell_of (env_of p most h l) x) x) b ∷ k in
+      reads_name s o t b x (Some c.0) h l left k d _ kind name (look_out l h.act.outer x out ∙ c.1)
+      (λ s2 row. source_goes p (row ∙ ap (λ v. source_moves.now (source.Give v) (inside p most h) after (env_of p most h l) d.script) c.2)
+      (given p most h machine.Idle l mid from left after (at (cells_m d) (slice_index_or h.act.cells u 0)) d file file _ w (steady_all l file.registers)
+      (row_here p most h from mid file d (insn.GetUpvalue (length l) u) reads)
+      (λ i lt v d2 file2 w2 steady.
+      updates (of_stat s) o operation b x true (in_register (length l)) own2 sees2 h l mid last next to i (omega (arith, le, lt)) k v d2 file2 is w2
+      (top_is w2) (own_stays p most h l) b_runs operates writes room (λ n lt2. go n (omega (arith, lt, lt2)) 0))))
+
+  -- and to a global
+  pub compound_global : (s : Stat) (o : BinOp) (operation : Value → Value → Operation) (t b : Expr) (x : StrId) (c : ℕ) (own2 : Bool)
+      (sees2 : Sight) (h : Here p most) (l : List Slot) (j : Jumps) (from mid last next to : ℕ) → IsOperation o operation (source.Wants source.One)
+      → out-StatKind s.kind ≡ level.Compound o t b → out-ExprKind t.kind ≡ level.Name x → local_at l x ≡ None → cell_of h.act.outer x ≡ None
+      → name_at p.chunk h.number c ≡ Some (text_of p.texts x) → Reads p most h from (insn.GetGlobal (length l) c) mid
+      → ((v : Value) → OperandRuns p most b h (Temp v ∷ l) mid last own2 sees2)
+      → Operates p most h last operation (in_register (length l)) sees2 (length l) next → Writes p most h l x (length l) next to
+      → suc (length l) ≤ h.proto.registers → StatRuns p most s h l j from to (λ c. l)
+  compound_global s o operation t b x c own2 sees2 h l j from mid last next to is kind name out none text reads b_runs operates writes room left le k d file w ways go =
+      let after = source.Reads (of_stat s) o (statements.target_of (cell_of (env_of p most h l) x) x) b ∷ k in
+      reads_name s o t b x None h l left k d _ kind name (look_out l h.act.outer x out ∙ none)
+      (λ s2 row. value_here p most calls (Index (Table (environment_of (store_s d) h.closure)) (Text (text_of p.texts x))) h l left le (of_stat s) after
+      from mid file file d (omega (arith, room)) w (steady_all l file.registers)
+      (λ i lt v d2 file2 w2 steady.
+      updates (of_stat s) o operation b x true (in_register (length l)) own2 sees2 h l mid last next to i (omega (arith, le, lt)) k v d2 file2 is w2
+      (top_is w2) (own_stays p most h l) b_runs operates writes room (λ n lt2. go n (omega (arith, lt, lt2)) 0)) s2 _ row
+      (row_here p most h from mid file d (insn.GetGlobal (length l) c) reads
+      ∙ ap (λ o. effects.with_name o (λ y. effects.index (Table (environment_of (store_m d) h.closure)) (Text y) (length l) mid)
+      (frame p most h from file) h.below_m d.code) text
+      ∙ ap (λ s. machine_moves.settle (choose (Index (Table (environment_of s h.closure)) (Text (text_of p.texts x))) (store_m d))
+      (machine.Into (length l) mid) (frame p most h from file) h.below_m d.code) (sym w.ok.base.store)))
