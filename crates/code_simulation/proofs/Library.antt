@@ -1,6 +1,6 @@
 -- The library keeps the coroutines: it runs in the one that called it, and makes at most new ones behind those that there are. What waits
 -- for a call of its own is no function of the script.
-use Rattle.std.proofs.Common.{◌≡◌, refl, sym, ◌∙◌, ℕ, zero, suc, ℤ, pos, negsuc, ◌+ℤ◌, Bool, true, false, ◌&&◌, List, [], ◌∷◌, ◌++◌, length, map, reverse, drop, Option, Some, None, Ok, Err, Result, codes}
+use Rattle.std.proofs.Common.{◌≡◌, refl, sym, subst, ◌∙◌, ℕ, zero, suc, ℤ, pos, negsuc, ◌+ℤ◌, Bool, true, false, ◌&&◌, List, [], ◌∷◌, ◌++◌, length, map, reverse, drop, Option, Some, None, Ok, Err, Result, codes}
 use Rattle.std.specs.Prelude.{slice_get, if◌then◌else◌, unsigned_abs, int_le, int_lt, nat_le}
 use Rattle.std.specs.Int.{int_min, int_max, int_signum}
 use Rattle.std.specs.Char.{to_ascii_lowercase, to_ascii_uppercase}
@@ -564,3 +564,12 @@ module _ (s : Store) where
 
   pub continue_keeps : (c : Continue) (v : Value) → AnswerKeeps s (go_on c v s)
   continue_keeps c v = (go_on_holds c v).holds
+
+  -- values come from no call that closes a coroutine
+  closes_none : (b : Builtin) (args vs : List Value) (t : Store) → lib b args s ≡ Answers vs t → IsClose b args → ⊥
+  unfolding lib
+  closes_none builtin.CoroutineClose (Thread i ∷ us) vs t e c = cc
+  closes_none b args vs t e c = c
+
+  pub answers_keep : (b : Builtin) (args vs : List Value) (t : Store) → lib b args s ≡ Answers vs t → Kept s t
+  answers_keep b args vs t e = subst (AnswerKeeps s) e (library_keeps b args (closes_none b args vs t e))

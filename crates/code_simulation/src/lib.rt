@@ -4,4 +4,4 @@
 
 mod laws;
 
-pub use laws::operations_keep_coroutines;
+pub use laws::{library_keeps_coroutines, operations_keep_coroutines};
