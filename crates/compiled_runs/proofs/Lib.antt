@@ -16,3 +16,4 @@ pub mod Logic
 pub mod Comparisons
 pub mod Concats
 pub mod Calls
+pub mod Choices
