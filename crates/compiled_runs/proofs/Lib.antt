@@ -8,3 +8,12 @@ pub mod Constants
 pub mod NodeLevels
 pub mod Nodes
 pub mod Leaves
+pub mod Following
+pub mod Lists
+pub mod Parentheses
+pub mod Operators
+pub mod Logic
+pub mod Comparisons
+pub mod Concats
+pub mod Calls
+pub mod Choices
