@@ -8,3 +8,9 @@ pub mod Constants
 pub mod NodeLevels
 pub mod Nodes
 pub mod Leaves
+pub mod Turns
+pub mod Statements
+pub mod ExactLists
+pub mod Locals
+pub mod Blocks
+pub mod Branches
