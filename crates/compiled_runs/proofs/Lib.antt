@@ -17,3 +17,9 @@ pub mod Comparisons
 pub mod Concats
 pub mod Calls
 pub mod Choices
+pub mod Turns
+pub mod Statements
+pub mod ExactLists
+pub mod Locals
+pub mod Blocks
+pub mod Branches
