@@ -1,0 +1,10 @@
+pub mod Items
+pub mod Numbers
+pub mod Adds
+pub mod Parts
+pub mod Conditions
+pub mod Blocks
+pub mod Functions
+pub mod Walks
+pub mod SizeLevels
+pub mod Whole
