@@ -1,0 +1,5 @@
+//! The tests of `unbuilt_nodes`.
+#![tactic(auto)]
+
+#[cfg(test)]
+mod tests;
