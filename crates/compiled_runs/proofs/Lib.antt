@@ -17,3 +17,5 @@ pub mod Comparisons
 pub mod Concats
 pub mod Calls
 pub mod Choices
+pub mod Captures
+pub mod Functions
