@@ -23,3 +23,5 @@ pub mod ExactLists
 pub mod Locals
 pub mod Blocks
 pub mod Branches
+pub mod Captures
+pub mod Functions
