@@ -14,3 +14,4 @@ pub mod ExactLists
 pub mod Locals
 pub mod Blocks
 pub mod Branches
+pub mod Loops
