@@ -25,3 +25,4 @@ pub mod Branches
 pub mod Loops
 pub mod CallStatements
 pub mod Returns
+pub mod Assigns
