@@ -18,6 +18,8 @@ pub mod Comparisons
 pub mod Concats
 pub mod Calls
 pub mod Choices
+pub mod Captures
+pub mod Functions
 pub mod Statements
 pub mod Locals
 pub mod Blocks
