@@ -8,6 +8,7 @@ pub mod Constants
 pub mod NodeLevels
 pub mod Nodes
 pub mod Leaves
+pub mod Turns
 pub mod Following
 pub mod Lists
 pub mod Parentheses
@@ -17,11 +18,13 @@ pub mod Comparisons
 pub mod Concats
 pub mod Calls
 pub mod Choices
-pub mod Turns
 pub mod Statements
-pub mod ExactLists
 pub mod Locals
 pub mod Blocks
 pub mod Branches
 pub mod Captures
 pub mod Functions
+pub mod Loops
+pub mod CallStatements
+pub mod Returns
+pub mod Assigns

@@ -38,8 +38,8 @@ use Rattle.compiled_runs.proofs.Constants.{get_within}
 use Rattle.compiled_runs.proofs.Standing.{Script, At, sees}
 use Rattle.compiled_runs.proofs.NodeLevels.{stat_code_of, stat_need_of}
 use Rattle.compiled_runs.proofs.Nodes.{Runs, In, Stand}
-use Rattle.compiled_runs.proofs.Statements.{InLoop, Allowed, Goes, Does, Performs, AllHold, in_statement}
-use Rattle.compiled_runs.proofs.ExactLists.{Begun, exact_goes}
+use Rattle.compiled_runs.proofs.Statements.{InLoop, Allowed, Goes, Does, Performs, in_statement}
+use Rattle.compiled_runs.proofs.Lists.{AllHold, exact_alone}
 
 -- ---- new variables
 
@@ -187,15 +187,20 @@ module _ (p : Setting) (most : ℕ) (b : Bindings) (whole : Emitter) (script : S
         let needed : (need_stat s).need ≡ max (length xs) (list_from 0 (map need_expr es)) =
         ap (λ (n : StatNeed). n.need) (stat_need_of s (level.Local xs es) is) in
         let room = st.room in
-        let begun : Begun p most b whole script h r (map expr es) l d =
-        record { at = in_statement p most b whole script h r s (level.Local xs es) ps l d is st.at refl (omega arith) refl; func = st.func } in
+        let begun : Stand p most b whole script h r (map expr es) l d d1 (list_from 0 (map need_expr es)) =
+        record {
+          at = in_statement p most b whole script h r s (level.Local xs es) ps l d is st.at refl (omega arith) refl;
+          inside = first;
+          func = st.func;
+          room = omega (arith, room, needed);
+        } in
         let captured = flags st.at.sight.declared l in
         record {
           after = λ c. vars captured xs c l;
           runs = subst (λ n. StatRuns p most s h l j (here d) n (λ c. vars captured xs c l))
               (sym (here_declared (length xs) (first_at b s.id) (length l) d1))
               (local_same p most s xs es captured h l j (here d) (here d1) is
-              (exact_goes p most b whole script h r es (length xs) (length l) 0 l d holds begun first (omega arith) (omega (arith, room, needed))));
+              (exact_alone p most b whole script h r es holds (length xs) l d begun));
           at = λ c. behind_local s xs es ps l d d1 c is st.at
               (keeps.exact_good codes (keeps.exprs_are_good b es) (length l) (length xs) d d (keeps.none d));
           above = λ c. above_vars captured xs c l;

@@ -121,10 +121,6 @@ module _ (p : Setting) (most : ℕ) (b : Bindings) (whole : Emitter) (script : S
   AllPerform [] = Unit {0}
   AllPerform (s ∷ ss) = Performs s × AllPerform ss
 
-  abbrev pub AllHold : List Expr → Type 0
-  AllHold [] = Unit {0}
-  AllHold (e ∷ es) = As p most b whole script e (expr_code b e) × AllHold es
-
   -- ---- a statement behind which the slots are those from before
 
   pub plain_goes : (s : Stat) (x : StatLevel) (h : Here p most) (r : Runs p most b whole script h) (ps : List Part) (l : List Slot) (j : Jumps)
