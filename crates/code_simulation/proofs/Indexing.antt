@@ -94,7 +94,7 @@ module _ (p : Setting) (most : ℕ) where
       ∙ ap (λ z. effects.index v z to next (frame p most h place file) h.below_m d.code) (sym y)
 
   -- the code's row of a name's value in a table
-  name_row : (h : Here p most) (place a c to next : ℕ) (v : Value) (bs : List ℕ) (d : Dyn) (file : File)
+  pub name_row : (h : Here p most) (place a c to next : ℕ) (v : Value) (bs : List ℕ) (d : Dyn) (file : File)
       → Reads p most h place (insn.GetTableKS to a c) next → name_at p.chunk h.number c ≡ Some bs → file.registers a ≡ Val v
       → machine_steps.step p.chunk (machine_at p most h place file d)
       ≡ machine_moves.settle (choose (Index v (Text bs)) (store_m d)) (machine.Into to next) (frame p most h place file) h.below_m d.code

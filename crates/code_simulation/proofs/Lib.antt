@@ -33,6 +33,7 @@ pub mod Numeric
 pub mod Repeats
 pub mod Concats
 pub mod Indexing
+pub mod Fields
 pub mod Methods
 pub mod Bounds
 pub mod Singles

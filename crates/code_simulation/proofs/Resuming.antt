@@ -45,8 +45,8 @@ turned_alive status (Some k) cs ne alive e =
 -- ---- a coroutine that waits is resumed
 
 resume_changes : {p : Setting} {R : Promise} {turns co : ℕ} {ws : List Wait} {ds : List Desc} {d : Dyn} {line : List ℕ}
-    → (wrapped : Bool) (i : ℕ) (args : List Value) → (coroutine_at (store_s d).coroutines i).status ≡ Suspended → Ok p turns co ws ds d → OtherCoroutines R line co d
-    → Changes d (decision.resume_it wrapped i args d.script.waits (store_s d)) co i (Resumes wrapped ∷ ws) (i ∷ line)
+    → (wrapped : Bool) (i : ℕ) (args : List Value) → (coroutine_at (store_s d).coroutines i).status ≡ Suspended → Ok p turns co ws ds d
+    → OtherCoroutines R line co d → Changes d (decision.resume_it wrapped i args d.script.waits (store_s d)) co i (Resumes wrapped ∷ ws) (i ∷ line)
 resume_changes {co = co} {ws = ws} {d = d} {line = line} wrapped i args e o c =
     let s = store_s d in
     let w = Resumes wrapped in

@@ -84,47 +84,52 @@ module _ (p : Setting) (most : ℕ) where
       (go left (omega arith) n d3 file3 w3)))
 
 module _ (p : Setting) (most : ℕ) (calls : (i : ℕ) → i ≤ most → CallsGo p i) where
+  -- what follows where the value is in the first free register, and is to be stored
+  abbrev pub StoreRuns : Node → Target → Here p most → List Slot → (place next : ℕ) → Type 0
+  StoreRuns node target h l place next =
+      (left : ℕ) → left ≤ most → (k : List source.Frame) (v : Value) (d : Dyn) (file : File) → Has p most h left (Temp v ∷ l) d file
+      → ((i : ℕ) → i ≤ left → (d2 : Dyn) (file2 : File) → Has p most h i (Temp v ∷ l) d2 file2 → Same p most h i (source.Store [] []) k l d2 next file2)
+      → Same p most h left (source.Store ((node, target) ∷ []) (v ∷ [])) k l d place file
+
+  store_name : (x : StrId) (node : Node) (h : Here p most) (l : List Slot) (place next : ℕ) → Writes p most h l x (length l) place next
+      → suc (length l) ≤ h.proto.registers → StoreRuns node (statements.target_of (cell_of (env_of p most h l) x) x) h l place next
+  store_name x node h l place next writes room left le k v d file w go =
+      write_same p most calls x node (length l) h l (Temp v ∷ l) place next left le k [] [] v d file writes refl refl room (top_is w) w go _ refl
+
   -- the rest of a compound assignment, where the value that was there is given
-  updates : (node : Node) (o : BinOp) (operation : Value → Value → Operation) (b : Expr) (x : StrId) (own1 : Bool) (sees1 : Sight) (own2 : Bool)
+  pub updates : (node : Node) (o : BinOp) (operation : Value → Value → Operation) (b : Expr) (target : Target) (own1 : Bool) (sees1 : Sight) (own2 : Bool)
       (sees2 : Sight) (h : Here p most) (l : List Slot) (mid last next to left : ℕ) → left ≤ most
       → (k : List source.Frame) (v : Value) (d : Dyn) (file : File) → IsOperation o operation (source.Wants source.One)
       → Has p most h left (over own1 v l) d file → sees1 file.registers v → Stays p most h l own1 sees1
       → ((v : Value) → OperandRuns p most b h (over own1 v l) mid last own2 sees2) → Operates p most h last operation sees1 sees2 (length l) next
-      → Writes p most h l x (length l) next to → suc (length l) ≤ h.proto.registers
+      → StoreRuns node target h l next to → suc (length l) ≤ h.proto.registers
       → ((i : ℕ) → i ≤ left → (d2 : Dyn) (file2 : File) → Has p most h i l d2 file2 → Same p most h i source.Done k l d2 to file2)
-      → Same p most h left (source.Give v) (source.Reads node o (statements.target_of (cell_of (env_of p most h l) x) x) b ∷ k) l d mid file
-  updates node o operation b x own1 sees1 own2 sees2 h l mid last next to left le k v d file is w see stays b_runs operates writes room go =
+      → Same p most h left (source.Give v) (source.Reads node o target b ∷ k) l d mid file
+  updates node o operation b target own1 sees1 own2 sees2 h l mid last next to left le k v d file is w see stays b_runs operates stores room go =
       source_goes p refl (evaluated own1 w stays b_runs)
     where
-      target : Target
-      target = statements.target_of (cell_of (env_of p most h l) x) x
-
       both : (i : ℕ) → i ≤ left → (u : Value) (d2 : Dyn) (file2 : File) → Has p most h i l d2 file2 → sees1 file2.registers v
-          → sees2 file2.registers u → Same p most h i (source.Give u)
-          (source.RightOperand node o v ∷ source.StoresIn node (statements.target_of (cell_of (env_of p most h l) x) x) ∷ k) l d2 last file2
+          → sees2 file2.registers u → Same p most h i (source.Give u) (source.RightOperand node o v ∷ source.StoresIn node target ∷ k) l d2 last file2
       both i lt u d2 file2 w2 see1 see2 =
-          let target = statements.target_of (cell_of (env_of p most h l) x) x in
           value_here p most calls (operation v u) h l i (omega (arith, le, lt)) node (source.StoresIn node target ∷ k) last next file2 file2 d2
           (omega (arith, room)) w2 (steady_all l file2.registers)
           (λ n lt2 z d3 file3 w3 steady.
           source_goes p refl
-          (write_same p most calls x node (length l) h l (Temp z ∷ l) next to n (omega (arith, le, lt, lt2)) k [] [] z d3 file3 writes refl refl room
-          (top_is w3) w3
-          (λ m lt3 d4 file4 w4. source_goes p refl (go m (omega (arith, lt, lt2, lt3)) d4 file4 (pop w4))) _ refl))
+          (stores n (omega (arith, le, lt, lt2)) k z d3 file3 w3
+          (λ m lt3 d4 file4 w4. source_goes p refl (go m (omega (arith, lt, lt2, lt3)) d4 file4 (pop w4)))))
           _ _
           (operate_row p most o operation (source.Wants source.One) node v u h l (source.StoresIn node target ∷ k) d2 is)
           (operates v u d2 file2 see1 see2)
 
       evaluated : (own : Bool) → Has p most h left (over own v l) d file → Stays p most h l own sees1
           → ((v : Value) → OperandRuns p most b h (over own v l) mid last own2 sees2)
-          → Same p most h left (source.Evaluate b) (source.RightOperand node o v ∷ source.StoresIn node
-          (statements.target_of (cell_of (env_of p most h l) x) x) ∷ k) l d mid file
+          → Same p most h left (source.Evaluate b) (source.RightOperand node o v ∷ source.StoresIn node target ∷ k) l d mid file
       evaluated true w stays b_runs =
-          b_runs v left le (source.RightOperand node o v ∷ source.StoresIn node (statements.target_of (cell_of (env_of p most h l) x) x) ∷ k) d file w
+          b_runs v left le (source.RightOperand node o v ∷ source.StoresIn node target ∷ k) d file w
           (λ i lt u d2 file2 w2 see2 steady.
           let w3 = under p most own2 u h (Temp v ∷ l) d2 file2 w2 in both i lt u d2 file2 (pop w3) (stays i v d2 file.registers file2 see w3 steady) see2)
       evaluated false w stays b_runs =
-          b_runs v left le (source.RightOperand node o v ∷ source.StoresIn node (statements.target_of (cell_of (env_of p most h l) x) x) ∷ k) d file w
+          b_runs v left le (source.RightOperand node o v ∷ source.StoresIn node target ∷ k) d file w
           (λ i lt u d2 file2 w2 see2 steady.
           let w3 = under p most own2 u h l d2 file2 w2 in both i lt u d2 file2 w3 (stays i v d2 file.registers file2 see w3 steady) see2)
 
@@ -150,9 +155,11 @@ module _ (p : Setting) (most : ℕ) (calls : (i : ℕ) → i ≤ most → CallsG
       → Writes p most h l x (length l) next to → suc (length l) ≤ h.proto.registers → StatRuns p most s h l j from to (λ c. l)
   compound_in_place s o operation t b x v own2 sees2 h l j from last next to is kind name found plain b_runs operates writes room left le k d file w ways go =
       reads_local s o t b x v h l left k d _ kind name found
-      (updates (of_stat s) o operation b x false (in_register v.register) own2 sees2 h l from last next to left le k
+      (updates (of_stat s) o operation b (statements.target_of (cell_of (env_of p most h l) x) x) false (in_register v.register) own2 sees2 h l from last
+      next to left le k
       (at (cells_s d) v.cell) d file is w (read_plain x v found plain w) (local_stays p most x v h l found plain)
-      (λ u. b_runs) operates writes room (λ i lt. go i lt 0))
+      (λ u. b_runs) operates
+      (store_name x (of_stat s) h l next to writes room) room (λ i lt. go i lt 0))
 
   -- and to any local, whose value is copied first
   pub compound_copied : (s : Stat) (o : BinOp) (operation : Value → Value → Operation) (t b : Expr) (x : StrId) (v : Local) (own2 : Bool)
@@ -170,8 +177,10 @@ module _ (p : Setting) (most : ℕ) (calls : (i : ℕ) → i ≤ most → CallsG
       (held (cells_m d) (file.registers v.register)) d file file _ w (steady_all l file.registers)
       (row_here p most h from mid file d (insn.Move (length l) v.register) reads)
       (λ i lt u d2 file2 w2 steady.
-      updates (of_stat s) o operation b x true (in_register (length l)) own2 sees2 h l mid last next to i (omega (arith, le, lt)) k u d2 file2 is w2
-      (top_is w2) (own_stays p most h l) b_runs operates writes room (λ n lt2. go n (omega (arith, lt, lt2)) 0))))
+      updates (of_stat s) o operation b (statements.target_of (cell_of (env_of p most h l) x) x) true (in_register (length l)) own2 sees2 h l mid last
+      next to i (omega (arith, le, lt)) k u d2 file2 is w2
+      (top_is w2) (own_stays p most h l) b_runs operates
+      (store_name x (of_stat s) h l next to writes room) room (λ n lt2. go n (omega (arith, lt, lt2)) 0))))
 
   -- the script aims at a name that is to be assigned, and reads what it means
   reads_name : (s : Stat) (o : BinOp) (t b : Expr) (x : StrId) (c : Option ℕ) (h : Here p most) (l : List Slot) (left : ℕ) (k : List source.Frame)
@@ -194,7 +203,8 @@ module _ (p : Setting) (most : ℕ) (calls : (i : ℕ) → i ≤ most → CallsG
       → Reads p most h from (insn.GetUpvalue (length l) u) mid → ((v : Value) → OperandRuns p most b h (Temp v ∷ l) mid last own2 sees2)
       → Operates p most h last operation (in_register (length l)) sees2 (length l) next → Writes p most h l x (length l) next to
       → suc (length l) ≤ h.proto.registers → StatRuns p most s h l j from to (λ c. l)
-  compound_upvalue s o operation t b x u own2 sees2 h l j from mid last next to is kind name out up reads b_runs operates writes room left le k d file w ways go =
+  compound_upvalue s o operation t b x u own2 sees2 h l j from mid last next to is kind name out up reads b_runs operates writes room
+      left le k d file w ways go =
       let c = read_up x u up w in
       let after = source.Reads (of_stat s) o (statements.target_of (cell_of (env_of p most h l) x) x) b ∷ k in
       reads_name s o t b x (Some c.0) h l left k d _ kind name (look_out l h.act.outer x out ∙ c.1)
@@ -202,8 +212,10 @@ module _ (p : Setting) (most : ℕ) (calls : (i : ℕ) → i ≤ most → CallsG
       (given p most h machine.Idle l mid from left after (at (cells_m d) (slice_index_or h.act.cells u 0)) d file file _ w (steady_all l file.registers)
       (row_here p most h from mid file d (insn.GetUpvalue (length l) u) reads)
       (λ i lt v d2 file2 w2 steady.
-      updates (of_stat s) o operation b x true (in_register (length l)) own2 sees2 h l mid last next to i (omega (arith, le, lt)) k v d2 file2 is w2
-      (top_is w2) (own_stays p most h l) b_runs operates writes room (λ n lt2. go n (omega (arith, lt, lt2)) 0))))
+      updates (of_stat s) o operation b (statements.target_of (cell_of (env_of p most h l) x) x) true (in_register (length l)) own2 sees2 h l mid last
+      next to i (omega (arith, le, lt)) k v d2 file2 is w2
+      (top_is w2) (own_stays p most h l) b_runs operates
+      (store_name x (of_stat s) h l next to writes room) room (λ n lt2. go n (omega (arith, lt, lt2)) 0))))
 
   -- and to a global
   pub compound_global : (s : Stat) (o : BinOp) (operation : Value → Value → Operation) (t b : Expr) (x : StrId) (c : ℕ) (own2 : Bool)
@@ -213,14 +225,17 @@ module _ (p : Setting) (most : ℕ) (calls : (i : ℕ) → i ≤ most → CallsG
       → ((v : Value) → OperandRuns p most b h (Temp v ∷ l) mid last own2 sees2)
       → Operates p most h last operation (in_register (length l)) sees2 (length l) next → Writes p most h l x (length l) next to
       → suc (length l) ≤ h.proto.registers → StatRuns p most s h l j from to (λ c. l)
-  compound_global s o operation t b x c own2 sees2 h l j from mid last next to is kind name out none text reads b_runs operates writes room left le k d file w ways go =
+  compound_global s o operation t b x c own2 sees2 h l j from mid last next to is kind name out none text reads b_runs operates writes room
+      left le k d file w ways go =
       let after = source.Reads (of_stat s) o (statements.target_of (cell_of (env_of p most h l) x) x) b ∷ k in
       reads_name s o t b x None h l left k d _ kind name (look_out l h.act.outer x out ∙ none)
       (λ s2 row. value_here p most calls (Index (Table (environment_of (store_s d) h.closure)) (Text (text_of p.texts x))) h l left le (of_stat s) after
       from mid file file d (omega (arith, room)) w (steady_all l file.registers)
       (λ i lt v d2 file2 w2 steady.
-      updates (of_stat s) o operation b x true (in_register (length l)) own2 sees2 h l mid last next to i (omega (arith, le, lt)) k v d2 file2 is w2
-      (top_is w2) (own_stays p most h l) b_runs operates writes room (λ n lt2. go n (omega (arith, lt, lt2)) 0)) s2 _ row
+      updates (of_stat s) o operation b (statements.target_of (cell_of (env_of p most h l) x) x) true (in_register (length l)) own2 sees2 h l mid last
+      next to i (omega (arith, le, lt)) k v d2 file2 is w2
+      (top_is w2) (own_stays p most h l) b_runs operates
+      (store_name x (of_stat s) h l next to writes room) room (λ n lt2. go n (omega (arith, lt, lt2)) 0)) s2 _ row
       (row_here p most h from mid file d (insn.GetGlobal (length l) c) reads
       ∙ ap (λ o. effects.with_name o (λ y. effects.index (Table (environment_of (store_m d) h.closure)) (Text y) (length l) mid)
       (frame p most h from file) h.below_m d.code) text
