@@ -19,3 +19,4 @@ pub mod Calls
 pub mod Choices
 pub mod Captures
 pub mod Functions
+pub mod Expressions
