@@ -28,3 +28,4 @@ pub mod Loops
 pub mod CallStatements
 pub mod Returns
 pub mod Assigns
+pub mod Expressions

@@ -24,7 +24,6 @@ use Rattle.machine_meaning.specs.Instructions.{row}
 use Rattle.emit_expr.specs.declared.draft.Emitter.{Emitter}
 use Rattle.emit_expr.specs.Puts.{insn, constant_place, with_constant}
 use Rattle.emit_expr.specs.Operators.{is_near, near_number, takes_left, arithmetic, arithmetic_constant, from_constant}
-use Rattle.emit_laws.specs.Growing.{Grows}
 use Rattle.emit_laws.proofs.Grows as grows
 use Rattle.emit_laws.proofs.Keeps as keeps
 use Rattle.node_code.specs.Nodes.{ExprCode, single, operand_at, operand_run}
@@ -45,7 +44,7 @@ use Rattle.compiled_runs.proofs.Scopes.{some_none}
 use Rattle.compiled_runs.proofs.Standing.{Script}
 use Rattle.compiled_runs.proofs.Constants.{constant_known}
 use Rattle.compiled_runs.proofs.NodeLevels.{code_of}
-use Rattle.compiled_runs.proofs.Nodes.{has_temp, Runs, In, Stand, reads, As, ValueRuns}
+use Rattle.compiled_runs.proofs.Nodes.{has_temp, Runs, Stand, reads, As}
 use Rattle.compiled_runs.proofs.Following.{front, next, above, parts, operand_grows, operand_keeps}
 use Rattle.compiled_runs.proofs.Leaves.{Holds, single_as}
 use Rattle.compiled_runs.proofs.Parentheses.{false_true, decided_as}
