@@ -30,6 +30,7 @@ pub mod Outside
 pub mod Assigns
 pub mod Updates
 pub mod Numeric
+pub mod Generic
 pub mod Repeats
 pub mod Concats
 pub mod Indexing

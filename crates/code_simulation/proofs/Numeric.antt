@@ -42,11 +42,11 @@ three u q z l = Temp z ∷ Temp q ∷ Temp u ∷ l
 
 module _ (p : Setting) (most : ℕ) where
   -- the three registers, with other numbers in them
-  abbrev reset_file : File → ℕ → (limit step index : Value) → File
+  abbrev pub reset_file : File → ℕ → (limit step index : Value) → File
   reset_file file a u q z =
       record { registers = put (put (put file.registers a (Val u)) (suc a) (Val q)) (suc (suc a)) (Val z); top = file.top }
 
-  reset : {i : ℕ} (h : Here p most) (u q z u' q' z' : Value) (l : List Slot) (d : Dyn) (file : File) → Has p most h i (three u q z l) d file
+  pub reset : {i : ℕ} (h : Here p most) (u q z u' q' z' : Value) (l : List Slot) (d : Dyn) (file : File) → Has p most h i (three u q z l) d file
       → Has p most h i (three u' q' z' l) d (reset_file file (length l) u' q' z')
   reset h u q z u' q' z' l d file w =
       let w0 = pop (pop (pop w)) in
