@@ -20,3 +20,4 @@ pub mod Choices
 pub mod Captures
 pub mod Functions
 pub mod Expressions
+pub mod Enclosed
