@@ -41,8 +41,8 @@ named_place vs (j ∷ ks) (y ∷ xs) x k i up n e at = by (nat_eq j k) refl (res
     same : j ≡ k → Some y ≡ Some x
     same is = ap (λ (n : ℕ). Some (record { 0 = n })) (one_name y x k vs up (n.0 ∙ ap Some is) e)
 
-    rest : (i : ℕ) → slice_get (j ∷ ks) i ≡ Some k → ((q : ℕ) → slice_get ks q ≡ Some k → slice_get xs (place_in k ks) ≡ Some x) → nat_eq j k ≡ false
-        → slice_get xs (place_in k ks) ≡ Some x
+    rest : (i : ℕ) → slice_get (j ∷ ks) i ≡ Some k → ((q : ℕ) → slice_get ks q ≡ Some k → slice_get xs (place_in k ks) ≡ Some x)
+        → nat_eq j k ≡ false → slice_get xs (place_in k ks) ≡ Some x
     rest zero at more ne = absurd (true_false (sym (eq-eqb j k (same_some at)) ∙ ne))
     rest (suc i) at more ne = more i at
 
