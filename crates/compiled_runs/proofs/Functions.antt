@@ -138,8 +138,8 @@ module _ (p : Setting) (most : ℕ) (b : Bindings) (whole : Emitter) (script : S
   abbrev pub FunctionsCoded : Type 0
   FunctionsCoded =
       (h : Here p most) (r : Runs p most b whole script h) (f : FuncBody) (ps : List Part) (l : List Slot) (d : Emitter)
-      → (a : At p most b whole script h r (function f ∷ ps) l d) → d.draft.func ≡ r.final.func → In p most b whole script h r (func_code b f (length l) d)
-      → (xs : List StrId) → Named a.sight.scope (upvalues_at b (out-FuncBody f).id) xs
+      → (a : At p most b whole script h r (function f ∷ ps) l d) → d.draft.func ≡ r.final.func
+      → In p most b whole script h r (func_code b f (length l) d) → (xs : List StrId) → Named a.sight.scope (upvalues_at b (out-FuncBody f).id) xs
       → (proto : ProtoOf) × Code p f (child_number b f d) (env_of p most h l) xs proto
 
   module _ (coded : FunctionsCoded) (h : Here p most) (r : Runs p most b whole script h) where

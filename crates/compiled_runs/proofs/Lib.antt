@@ -29,3 +29,4 @@ pub mod CallStatements
 pub mod Returns
 pub mod Assigns
 pub mod Expressions
+pub mod Enclosed

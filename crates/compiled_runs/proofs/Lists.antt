@@ -229,7 +229,8 @@ module _ (p : Setting) (most : ℕ) (b : Bindings) (whole : Emitter) (script : S
         → ListRuns p most (f ∷ es) h (Temp v ∷ l) (here d1) (here (exact_run (codes (f ∷ es)) k n d1)) (suc n) (machine.adjusted n)) one
         (exact_runs (f ∷ es) a.1 n ps (Temp v ∷ l) d1))
         (above p most b whole script h r e (map expr (f ∷ es) ++ ps) l d d1 d2 d2 _ m s
-        (value_grows b e (length l) 2 d) (value_keeps b e (length l) 2 d) (grows.none d2) (need_rest (need_expr e) (need_expr f) (map need_expr es)) v))) whole_stands
+        (value_grows b e (length l) 2 d) (value_keeps b e (length l) 2 d) (grows.none d2)
+        (need_rest (need_expr e) (need_expr f) (map need_expr es)) v))) whole_stands
 
     pub exact_alone : (es : List Expr) → AllHold es → (n : ℕ) (l : List Slot) (d : Emitter)
         → Stand p most b whole script h r (map expr es) l d (exact_run (codes es) (length l) n d) (list_need (map need_expr es))

@@ -204,8 +204,8 @@ module _ (p : Setting) (most : ℕ) (calls : (i : ℕ) → i ≤ most → CallsG
         (before r.final whole d1 d2 (operand_grows b y (length l) d1) (before_put r.final whole _ d2 s.inside))))
         (omega (arith, s.room))
 
-  pub arithmetic_holds : (o : BinOp) (a : ArithOp) → IsArithmetic o a → (e x y : Expr) → out-ExprKind e.kind ≡ level.Binary o x y → IsHeld x → IsHeld y
-      → IsHeld e
+  pub arithmetic_holds : (o : BinOp) (a : ArithOp) → IsArithmetic o a → (e x y : Expr) → out-ExprKind e.kind ≡ level.Binary o x y → IsHeld x
+      → IsHeld y → IsHeld e
   arithmetic_holds o a ar e x y is hx hy =
       let code = ar.code (expr_code b x) (expr_code b y) e.id in
       subst (As p most b whole script e)
