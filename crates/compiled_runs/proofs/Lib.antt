@@ -28,3 +28,5 @@ pub mod Loops
 pub mod CallStatements
 pub mod Returns
 pub mod Assigns
+pub mod Chunks
+pub mod Bodies
