@@ -30,3 +30,5 @@ pub mod Returns
 pub mod Assigns
 pub mod Expressions
 pub mod Enclosed
+pub mod Chunks
+pub mod Bodies

@@ -21,7 +21,7 @@ use Rattle.emit_laws.proofs.Keeps as keeps
 use Rattle.node_code.specs.Code.{expr_code, stat_code, local_run}
 use Rattle.node_code.specs.Lists.{exact_run}
 use Rattle.scope_laws.specs.Declared.{own_names, stat_names, node_of}
-use Rattle.scope_laws.specs.Sight.{Sight, Part, expr, stat, function, visible, StatLevel, stat_shows, shows, behind, in_stat, in_part, next}
+use Rattle.scope_laws.specs.Sight.{Sight, Part, expr, stat, function, visible, StatLevel, stat_shows, shows, behind, in_stat, in_part, next, Sees}
 use Rattle.scope_laws.proofs.Seen.{nodes_have_firsts}
 use Rattle.scope_laws.proofs.Told.{declared_have_entries}
 use Rattle.code_simulation.specs.Slots.{Slot, Var, vars, Above}
@@ -107,43 +107,51 @@ module _ (b : Bindings) (outer : List Visible) (first : ℕ) where
         below = below_later (number + 1 + length xs) (number + length (x ∷ xs)) _ (omega arith) done.below;
       }
 
+-- ---- what the bindings say of a declaration
+
+module _ (p : Setting) (b : Bindings) (whole : Emitter) (script : Script p b whole) where
+  -- the number of the first local that a node declares is that of the locals declared before it
+  pub first_seen : (q : Part) (rest : List Part) (s : Sight) (number : ℕ) → Sees (numbered script.main).main s (q ∷ rest) → node_of q ≡ Some number
+      → first_at b number ≡ s.declared
+  first_seen q rest s number seen node =
+      ap (λ (b : Bindings). first_at b number) script.is
+      ∙ ap (λ o. unwrap_or o 0) (nodes_have_firsts script.main (numbered script.main) s q rest number refl seen node)
+
+  -- there are few locals
+  pub few_seen : (q : Part) (rest : List Part) (s : Sight) (xs : List StrId) → own_names q ≡ xs → Sees (numbered script.main).main s (q ∷ rest)
+      → (i : ℕ) → i < length xs → s.declared + i < 2 ^ 64 - 1
+  few_seen q rest s xs names seen i lt =
+      let named = get_some xs i lt in
+      let entry = declared_have_entries script.main (numbered script.main) (s.declared + i) refl (record {
+        sight = s;
+        part = q;
+        after = rest;
+        seen = seen;
+        place = i;
+        name = named.0;
+        named = ap (λ ns. slice_get ns i) names ∙ named.1;
+        number = refl;
+      }) in
+      let within : s.declared + i < length b.locals =
+      get_within b.locals (s.declared + i) entry.info (ap (λ (b : Bindings). slice_get b.locals (s.declared + i)) script.is ∙ entry.at) in
+      let few = script.few_locals in omega (arith, within, few)
+
 module _ (p : Setting) (most : ℕ) (b : Bindings) (whole : Emitter) (script : Script p b whole) where
   module _ (h : Here p most) (r : Runs p most b whole script h) where
-    -- ---- what the bindings say of a declaration
-
-    -- the number of the first local that a node declares is that of the locals declared before it
-    pub first_is : (q : Part) (ps : List Part) (l : List Slot) (d : Emitter) (number : ℕ) → node_of q ≡ Some number
+    first_is : (q : Part) (ps : List Part) (l : List Slot) (d : Emitter) (number : ℕ) → node_of q ≡ Some number
         → (a : At p most b whole script h r (q ∷ ps) l d) → first_at b number ≡ a.sight.declared
     first_is q ps l d number node a =
-        let s = sees p most b whole script h r (q ∷ ps) l d a in
-        ap (λ (b : Bindings). first_at b number) script.is
-        ∙ ap (λ o. unwrap_or o 0) (nodes_have_firsts script.main (numbered script.main) a.sight q (ps ++ s.0) number refl s.1 node)
+        let s = sees p most b whole script h r (q ∷ ps) l d a in first_seen p b whole script q (ps ++ s.0) a.sight number s.1 node
 
-    -- there are few locals
-    pub few_declared : (q : Part) (ps : List Part) (l : List Slot) (d : Emitter) (xs : List StrId) → own_names q ≡ xs
+    few_declared : (q : Part) (ps : List Part) (l : List Slot) (d : Emitter) (xs : List StrId) → own_names q ≡ xs
         → (a : At p most b whole script h r (q ∷ ps) l d) → (i : ℕ) → i < length xs → a.sight.declared + i < 2 ^ 64 - 1
-    few_declared q ps l d xs names a i lt =
-        let s = sees p most b whole script h r (q ∷ ps) l d a in
-        let named = get_some xs i lt in
-        let entry = declared_have_entries script.main (numbered script.main) (a.sight.declared + i) refl (record {
-          sight = a.sight;
-          part = q;
-          after = ps ++ s.0;
-          seen = s.1;
-          place = i;
-          name = named.0;
-          named = ap (λ ns. slice_get ns i) names ∙ named.1;
-          number = refl;
-        }) in
-        let within : a.sight.declared + i < length b.locals =
-        get_within b.locals (a.sight.declared + i) entry.info
-        (ap (λ (b : Bindings). slice_get b.locals (a.sight.declared + i)) script.is ∙ entry.at) in
-        let few = script.few_locals in omega (arith, within, few)
+    few_declared q ps l d xs names a =
+        let s = sees p most b whole script h r (q ∷ ps) l d a in few_seen p b whole script q (ps ++ s.0) a.sight xs names s.1
 
     -- ---- its run
 
     -- whether a new variable may be captured, by its register
-    abbrev flags : ℕ → List Slot → ℕ → Bool
+    abbrev pub flags : ℕ → List Slot → ℕ → Bool
     flags number l register = is_captured b (number + (register - length l))
 
     -- behind the declaration
