@@ -3,13 +3,14 @@
 -- They are all but table constructors, members and what stands under a key, calls of methods, texts with values in them, and generic
 -- loops. A node counts only where its parts do.
 use Rattle.std.specs.Prelude.{Bool, true, false, ◌&&◌, Option, Some, None}
+use Rattle.syntax_tree.specs.declared.tree.Arm.{Arm}
 use Rattle.syntax_tree.specs.declared.tree.Expr.{Expr}
 use Rattle.syntax_tree.specs.declared.tree.ExprArm.{ExprArm}
 use Rattle.syntax_tree.specs.declared.tree.FuncBody.{FuncBody}
 use Rattle.syntax_tree.specs.declared.tree.Stat.{Stat}
 use Rattle.syntax_tree.specs.declared.tree.ExprKind.TheOpen as level
 use Rattle.syntax_tree.specs.declared.tree.ExprKind.TheOpen.{ExprKind-F, StatKind-F}
-use Rattle.syntax_tree.specs.Fold.{Steps, at_expr, at_expr_arm, at_stat, at_func}
+use Rattle.syntax_tree.specs.Fold.{Steps, at_expr, at_expr_arm, at_arm, at_stat, at_func}
 use Rattle.syntax_tree.specs.Proper.{all, maybe_all, has_one, stands_between}
 
 abbrev pub ExprLevel : Type 0
@@ -75,6 +76,9 @@ built_expr = at_expr steps
 
 abbrev pub built_expr_arm : ExprArm → Bool
 built_expr_arm = at_expr_arm steps
+
+abbrev pub built_arm : Arm → Bool
+built_arm = at_arm steps
 
 abbrev pub built_stat : Stat → Bool
 built_stat = at_stat steps
