@@ -35,6 +35,7 @@ pub mod Repeats
 pub mod Concats
 pub mod Indexing
 pub mod Fields
+pub mod Compounds
 pub mod Methods
 pub mod Bounds
 pub mod Singles
