@@ -36,6 +36,7 @@ pub mod Concats
 pub mod Indexing
 pub mod Fields
 pub mod Compounds
+pub mod Tables
 pub mod Methods
 pub mod Bounds
 pub mod Singles
