@@ -30,3 +30,4 @@ pub mod Returns
 pub mod Assigns
 pub mod Chunks
 pub mod Bodies
+pub mod Trees
