@@ -1,6 +1,6 @@
 -- What a function captures, where its text begins: each variable by a name that stands for it there, from its register or as an
 -- upvalue of the function around.
-use Rattle.std.proofs.Common.{◌≡◌, ℕ, suc, ◌+◌, ◌<◌, ◌≤◌, Bool, true, false, List, [], ◌∷◌, ◌++◌, length, Option, Some, None, refl, sym, ap, ◌∙◌, arith, subst, ◌⊎◌, inl, inr, ⊎_elim}
+use Rattle.std.proofs.Common.{◌≡◌, ℕ, suc, ◌<◌, ◌≤◌, Bool, true, false, List, [], ◌∷◌, ◌++◌, Option, Some, None, refl, sym, ap, ◌∙◌, arith, subst, ⊎_elim}
 use Rattle.std.specs.Prelude.{slice_get, unwrap_or, nat_lt}
 use Rattle.std.specs.List.{Contains}
 use Rattle.std.proofs.lemmas.Bool.Decides.{nat_tests}
@@ -15,7 +15,6 @@ use Rattle.syntax_tree.specs.Scope.{look}
 use Rattle.source_meaning.specs.States.{cell_of}
 use Rattle.op_words.specs.declared.insn.Insn.TheVariants as i
 use Rattle.emit_expr.specs.declared.draft.Emitter.{Emitter}
-use Rattle.emit_expr.specs.Puts.{insn}
 use Rattle.emit_expr.specs.Names.{is_captured, captured_in, upvalues_at, register_in, upvalue_in, upvalue_of, capture_of, capture, captures}
 use Rattle.emit_laws.proofs.Grows as grows
 use Rattle.emit_laws.proofs.Keeps as keeps
@@ -25,16 +24,16 @@ use Rattle.scope_laws.specs.Declared.{IsCaptured}
 use Rattle.scope_laws.proofs.Capturing.{functions_capture}
 use Rattle.scope_laws.proofs.Told.{locals_are_told}
 use Rattle.scope_laws.proofs.Gains.{contains_at}
-use Rattle.code_simulation.specs.Slots.{Slot, local_at}
+use Rattle.code_simulation.specs.Slots.{Slot}
 use Rattle.code_simulation.specs.Relation.{Setting}
-use Rattle.code_simulation.proofs.Along.{Here, env_of, Reads}
+use Rattle.code_simulation.proofs.Along.{Here, env_of}
 use Rattle.code_simulation.proofs.Names.{look_out}
 use Rattle.code_simulation.proofs.Functions as functions
 use Rattle.code_simulation.proofs.Functions.{Captured, from_register, from_upvalue}
 use Rattle.compiled_runs.proofs.Places.{here, before}
-use Rattle.compiled_runs.proofs.Sights.{IsWhole, deep, further}
+use Rattle.compiled_runs.proofs.Sights.{deep, further}
 use Rattle.compiled_runs.proofs.Numbers.{look_more}
-use Rattle.compiled_runs.proofs.Scopes.{some_none, Aligned, register_none, found, missing, own_numbers}
+use Rattle.compiled_runs.proofs.Scopes.{Aligned, register_none, found, missing, own_numbers}
 use Rattle.compiled_runs.proofs.Standing as standing
 use Rattle.compiled_runs.proofs.Standing.{Script, At, around}
 use Rattle.compiled_runs.proofs.Nodes.{Runs, In, reads}

@@ -1,5 +1,5 @@
 -- `if` expressions.
-use Rattle.std.proofs.Common.{◌≡◌, ℕ, ◌+◌, ◌≤◌, pos, Bool, true, false, max, List, [], ◌∷◌, ◌++◌, length, map, Some, refl, sym, ap, ap₂, ◌∙◌, arith, subst, append-nil}
+use Rattle.std.proofs.Common.{◌≡◌, ℕ, ◌≤◌, pos, false, max, List, [], ◌∷◌, ◌++◌, length, map, Some, refl, sym, ap, ap₂, ◌∙◌, arith, subst, append-nil}
 use Rattle.syntax_tree.specs.declared.bindings.Bindings.{Bindings}
 use Rattle.syntax_tree.specs.declared.tree.Expr.{Expr}
 use Rattle.syntax_tree.specs.declared.tree.ExprArm.{ExprArm}
@@ -28,12 +28,12 @@ use Rattle.code_simulation.specs.Relation.{Setting}
 use Rattle.code_simulation.proofs.Along.{CallsGo, Here}
 use Rattle.code_simulation.proofs.Parts.{ExprRuns, PickRuns}
 use Rattle.code_simulation.proofs.Conditions.{pick_other, pick_arm, if_same}
-use Rattle.compiled_runs.proofs.Places.{here, before, before_put, here_place, rises, label_read}
+use Rattle.compiled_runs.proofs.Places.{here, before, here_place, rises, label_read}
 use Rattle.compiled_runs.proofs.Scopes.{Aligned, below_later}
 use Rattle.compiled_runs.proofs.Standing.{Script, At, kept}
 use Rattle.compiled_runs.proofs.NodeLevels.{code_of}
 use Rattle.compiled_runs.proofs.Nodes.{Runs, Stand, As, jump_at}
-use Rattle.compiled_runs.proofs.Following.{front, next, parts, value_grows, value_keeps, jump_grows, jump_keeps}
+use Rattle.compiled_runs.proofs.Following.{front, next, parts, value_grows, jump_grows, jump_keeps}
 use Rattle.compiled_runs.proofs.Leaves.{Holds, single_as}
 
 -- ---- an arm by its parts

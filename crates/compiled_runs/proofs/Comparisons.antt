@@ -1,5 +1,5 @@
 -- Comparisons, as jumps and as values.
-use Rattle.std.proofs.Common.{◌≡◌, ℕ, ◌+◌, ◌≤◌, ℤ, pos, Bool, true, false, not, max, List, [], ◌∷◌, length, Option, Some, refl, sym, ap, ◌∙◌, arith, subst}
+use Rattle.std.proofs.Common.{◌≡◌, ℕ, ◌+◌, ◌≤◌, ℤ, Bool, true, false, not, List, [], ◌∷◌, length, Some, refl, sym, ap, ◌∙◌, arith, subst}
 use Rattle.syntax_tree.specs.declared.bindings.Bindings.{Bindings}
 use Rattle.syntax_tree.specs.declared.tree.BinOp.{BinOp}
 use Rattle.syntax_tree.specs.declared.tree.BinOp.TheVariants as op
@@ -7,7 +7,6 @@ use Rattle.syntax_tree.specs.declared.tree.Expr.{Expr}
 use Rattle.syntax_tree.specs.declared.tree.ExprKind.{out-ExprKind}
 use Rattle.syntax_tree.specs.declared.tree.ExprKind.TheOpen as level
 use Rattle.syntax_tree.specs.Need.{need_expr}
-use Rattle.value_model.specs.declared.operator.CompareOp.{CompareOp}
 use Rattle.value_model.specs.declared.operator.CompareOp.TheVariants as compare_op
 use Rattle.value_model.specs.Values.{Value, Boolean}
 use Rattle.value_model.specs.Choices.{Operation, Compare}

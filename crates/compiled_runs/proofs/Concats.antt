@@ -1,5 +1,5 @@
 -- Runs of `..`.
-use Rattle.std.proofs.Common.{◌≡◌, ℕ, suc, ◌+◌, ◌-◌, ◌≤◌, List, [], ◌∷◌, ◌++◌, length, map, refl, sym, ap, ◌∙◌, arith, subst}
+use Rattle.std.proofs.Common.{◌≡◌, ℕ, suc, ◌+◌, ◌-◌, ◌≤◌, List, [], ◌∷◌, ◌++◌, length, map, refl, sym, ap, arith, subst}
 use Rattle.std.proofs.lemmas.List.{length-map}
 use Rattle.syntax_tree.specs.declared.bindings.Bindings.{Bindings}
 use Rattle.syntax_tree.specs.declared.tree.Expr.{Expr}
@@ -15,7 +15,7 @@ use Rattle.node_code.specs.Lists.{each_run}
 use Rattle.node_code.specs.Conditions.{concat_insn, concat_run}
 use Rattle.node_code.specs.Code.{expr_code}
 use Rattle.scope_laws.specs.Sight.{Part, expr}
-use Rattle.code_simulation.specs.Slots.{Slot, Temp, temps}
+use Rattle.code_simulation.specs.Slots.{Slot, temps}
 use Rattle.code_simulation.specs.Relation.{Setting}
 use Rattle.code_simulation.proofs.Along.{CallsGo, Here}
 use Rattle.code_simulation.proofs.Parts.{ExprRuns}

@@ -1,5 +1,5 @@
 -- Function expressions: the closure is made of the function's prototype and captures the variables that the function uses.
-use Rattle.std.proofs.Common.{◌≡◌, ℕ, suc, ◌+◌, ◌<◌, ◌≤◌, ◌^◌, pos, min, Bool, List, [], ◌∷◌, ◌++◌, length, map, Option, Some, refl, sym, ap, ◌∙◌, arith, subst, append_assoc}
+use Rattle.std.proofs.Common.{◌≡◌, ℕ, ◌≤◌, pos, min, List, [], ◌∷◌, ◌++◌, length, map, Some, refl, sym, ap, ◌∙◌, arith, subst}
 use Rattle.std.specs.Prelude.{slice_get}
 use Rattle.byte_text.specs.declared.fixed.StrId.{StrId}
 use Rattle.syntax_tree.specs.declared.bindings.Bindings.{Bindings}
@@ -8,9 +8,7 @@ use Rattle.syntax_tree.specs.declared.tree.ExprKind.{out-ExprKind}
 use Rattle.syntax_tree.specs.declared.tree.ExprKind.TheOpen as level
 use Rattle.syntax_tree.specs.declared.tree.FuncBody.{FuncBody, out-FuncBody}
 use Rattle.op_words.specs.Chunks.{ProtoOf}
-use Rattle.op_words.specs.declared.insn.Insn.{Insn as Instruction}
 use Rattle.op_words.specs.declared.insn.Insn.TheVariants as i
-use Rattle.emit_expr.specs.declared.draft.Draft.{Draft}
 use Rattle.emit_expr.specs.declared.draft.Emitter.{Emitter}
 use Rattle.emit_expr.specs.declared.draft.Prototype.{Prototype}
 use Rattle.emit_expr.specs.Puts.{Step, put, insn, blank, short, long, with_draft, with_child, with_prototype, done}
@@ -31,7 +29,7 @@ use Rattle.compiled_runs.proofs.Constants.{get_last, get_prefix, get_within}
 use Rattle.compiled_runs.proofs.Scopes.{Aligned}
 use Rattle.compiled_runs.proofs.Standing.{Script, At}
 use Rattle.compiled_runs.proofs.NodeLevels.{code_of, func_code_of}
-use Rattle.compiled_runs.proofs.Nodes.{Runs, In, Stand, reads, As}
+use Rattle.compiled_runs.proofs.Nodes.{Runs, In, reads, As}
 use Rattle.compiled_runs.proofs.Following.{parts}
 use Rattle.compiled_runs.proofs.Leaves.{Holds, single_as}
 use Rattle.compiled_runs.proofs.Captures.{Named, names, are_captured, are_named, all_captured}
@@ -140,8 +138,8 @@ module _ (p : Setting) (most : ℕ) (b : Bindings) (whole : Emitter) (script : S
   abbrev pub FunctionsCoded : Type 0
   FunctionsCoded =
       (h : Here p most) (r : Runs p most b whole script h) (f : FuncBody) (ps : List Part) (l : List Slot) (d : Emitter)
-      → (a : At p most b whole script h r (function f ∷ ps) l d) → d.draft.func ≡ r.final.func → In p most b whole script h r (func_code b f (length l) d)
-      → (xs : List StrId) → Named a.sight.scope (upvalues_at b (out-FuncBody f).id) xs
+      → (a : At p most b whole script h r (function f ∷ ps) l d) → d.draft.func ≡ r.final.func
+      → In p most b whole script h r (func_code b f (length l) d) → (xs : List StrId) → Named a.sight.scope (upvalues_at b (out-FuncBody f).id) xs
       → (proto : ProtoOf) × Code p f (child_number b f d) (env_of p most h l) xs proto
 
   module _ (coded : FunctionsCoded) (h : Here p most) (r : Runs p most b whole script h) where

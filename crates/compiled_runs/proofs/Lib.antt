@@ -20,6 +20,8 @@ pub mod Calls
 pub mod Choices
 pub mod Captures
 pub mod Functions
+pub mod Expressions
+pub mod Enclosed
 pub mod Statements
 pub mod Locals
 pub mod Blocks

@@ -1,19 +1,15 @@
 -- Lists of expressions: the values come to stand in registers one behind the other, and of the last expression all that are wanted.
 use Rattle.std.proofs.Common.{◌≡◌, ℕ, zero, suc, ◌+◌, ◌-◌, ◌≤◌, Bool, true, false, List, [], ◌∷◌, ◌++◌, length, map, refl, sym, ap, ◌∙◌, arith, subst, append-nil, if◌then◌else◌}
-use Rattle.std.specs.Prelude.{max}
 use Rattle.std.proofs.lemmas.Bool.{ne_eqb}
 use Rattle.syntax_tree.specs.declared.bindings.Bindings.{Bindings}
 use Rattle.syntax_tree.specs.declared.tree.Expr.{Expr}
 use Rattle.syntax_tree.specs.Need.{ExprNeed, need_expr, list_from, list_need}
-use Rattle.value_model.specs.Values.{Value}
 use Rattle.op_words.specs.declared.insn.Insn.TheVariants as i
 use Rattle.machine_meaning.specs.States as machine
 use Rattle.emit_expr.specs.declared.draft.Emitter.{Emitter}
 use Rattle.emit_expr.specs.Puts.{insn}
 use Rattle.emit_laws.specs.Growing.{Grows}
 use Rattle.emit_laws.proofs.Grows as grows
-use Rattle.emit_laws.proofs.Keeps as keeps
-use Rattle.emit_laws.proofs.Keeps.{Keeps}
 use Rattle.node_code.specs.Nodes.{ExprCode}
 use Rattle.node_code.specs.Lists.{results_for, behind, last_from, list_run, count_of, nils, last_run, exact_run}
 use Rattle.node_code.specs.Code.{expr_code}
@@ -21,7 +17,7 @@ use Rattle.scope_laws.specs.Sight.{Part, expr}
 use Rattle.code_simulation.specs.Slots.{Slot, Temp}
 use Rattle.code_simulation.specs.Relation.{Setting}
 use Rattle.code_simulation.proofs.Along.{Here}
-use Rattle.code_simulation.proofs.Parts.{ExprRuns, AllRuns, ListRuns}
+use Rattle.code_simulation.proofs.Parts.{AllRuns, ListRuns}
 use Rattle.code_simulation.proofs.Registers.{wanted}
 use Rattle.code_simulation.proofs.Values as values
 use Rattle.code_simulation.proofs.Lists as lists
@@ -233,7 +229,8 @@ module _ (p : Setting) (most : ℕ) (b : Bindings) (whole : Emitter) (script : S
         → ListRuns p most (f ∷ es) h (Temp v ∷ l) (here d1) (here (exact_run (codes (f ∷ es)) k n d1)) (suc n) (machine.adjusted n)) one
         (exact_runs (f ∷ es) a.1 n ps (Temp v ∷ l) d1))
         (above p most b whole script h r e (map expr (f ∷ es) ++ ps) l d d1 d2 d2 _ m s
-        (value_grows b e (length l) 2 d) (value_keeps b e (length l) 2 d) (grows.none d2) (need_rest (need_expr e) (need_expr f) (map need_expr es)) v))) whole_stands
+        (value_grows b e (length l) 2 d) (value_keeps b e (length l) 2 d) (grows.none d2)
+        (need_rest (need_expr e) (need_expr f) (map need_expr es)) v))) whole_stands
 
     pub exact_alone : (es : List Expr) → AllHold es → (n : ℕ) (l : List Slot) (d : Emitter)
         → Stand p most b whole script h r (map expr es) l d (exact_run (codes es) (length l) n d) (list_need (map need_expr es))

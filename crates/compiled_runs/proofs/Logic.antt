@@ -1,5 +1,5 @@
 -- `and` and `or`, as values and as conditions.
-use Rattle.std.proofs.Common.{◌≡◌, ℕ, ◌+◌, ◌≤◌, pos, Bool, true, false, List, [], ◌∷◌, length, Some, refl, sym, ◌∙◌, arith, subst}
+use Rattle.std.proofs.Common.{◌≡◌, ℕ, ◌≤◌, pos, true, false, [], ◌∷◌, length, refl, sym, arith, subst}
 use Rattle.syntax_tree.specs.declared.bindings.Bindings.{Bindings}
 use Rattle.syntax_tree.specs.declared.tree.BinOp.TheVariants as op
 use Rattle.syntax_tree.specs.declared.tree.Expr.{Expr}
@@ -14,16 +14,15 @@ use Rattle.emit_laws.proofs.Keeps as keeps
 use Rattle.node_code.specs.Nodes.{ExprCode}
 use Rattle.node_code.specs.Conditions.{and_run, or_run, and_jump, or_jump}
 use Rattle.node_code.specs.Code.{expr_code}
-use Rattle.scope_laws.specs.Sight.{Part, expr}
-use Rattle.code_simulation.specs.Slots.{Slot}
+use Rattle.scope_laws.specs.Sight.{expr}
 use Rattle.code_simulation.specs.Relation.{Setting}
-use Rattle.code_simulation.proofs.Along.{CallsGo, Here}
+use Rattle.code_simulation.proofs.Along.{CallsGo}
 use Rattle.code_simulation.proofs.Parts.{ExprRuns, CondRuns}
 use Rattle.code_simulation.proofs.Conditions.{and_same, or_same, cond_and, cond_or}
 use Rattle.compiled_runs.proofs.Places.{here, before, before_put, here_place, rises, label_read}
 use Rattle.compiled_runs.proofs.Standing.{Script}
 use Rattle.compiled_runs.proofs.NodeLevels.{code_of}
-use Rattle.compiled_runs.proofs.Nodes.{Runs, As, ValueRuns, jump_at}
+use Rattle.compiled_runs.proofs.Nodes.{As, ValueRuns, jump_at}
 use Rattle.compiled_runs.proofs.Following.{front, next, parts, value_grows, value_keeps, jump_grows, jump_keeps}
 use Rattle.compiled_runs.proofs.Leaves.{Holds}
 use Rattle.compiled_runs.proofs.Parentheses.{JumpRuns, decided_as}

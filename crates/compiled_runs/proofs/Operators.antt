@@ -24,7 +24,6 @@ use Rattle.machine_meaning.specs.Instructions.{row}
 use Rattle.emit_expr.specs.declared.draft.Emitter.{Emitter}
 use Rattle.emit_expr.specs.Puts.{insn, constant_place, with_constant}
 use Rattle.emit_expr.specs.Operators.{is_near, near_number, takes_left, arithmetic, arithmetic_constant, from_constant}
-use Rattle.emit_laws.specs.Growing.{Grows}
 use Rattle.emit_laws.proofs.Grows as grows
 use Rattle.emit_laws.proofs.Keeps as keeps
 use Rattle.node_code.specs.Nodes.{ExprCode, single, operand_at, operand_run}
@@ -45,7 +44,7 @@ use Rattle.compiled_runs.proofs.Scopes.{some_none}
 use Rattle.compiled_runs.proofs.Standing.{Script}
 use Rattle.compiled_runs.proofs.Constants.{constant_known}
 use Rattle.compiled_runs.proofs.NodeLevels.{code_of}
-use Rattle.compiled_runs.proofs.Nodes.{has_temp, Runs, In, Stand, reads, As, ValueRuns}
+use Rattle.compiled_runs.proofs.Nodes.{has_temp, Runs, Stand, reads, As}
 use Rattle.compiled_runs.proofs.Following.{front, next, above, parts, operand_grows, operand_keeps}
 use Rattle.compiled_runs.proofs.Leaves.{Holds, single_as}
 use Rattle.compiled_runs.proofs.Parentheses.{false_true, decided_as}
@@ -205,8 +204,8 @@ module _ (p : Setting) (most : ℕ) (calls : (i : ℕ) → i ≤ most → CallsG
         (before r.final whole d1 d2 (operand_grows b y (length l) d1) (before_put r.final whole _ d2 s.inside))))
         (omega (arith, s.room))
 
-  pub arithmetic_holds : (o : BinOp) (a : ArithOp) → IsArithmetic o a → (e x y : Expr) → out-ExprKind e.kind ≡ level.Binary o x y → IsHeld x → IsHeld y
-      → IsHeld e
+  pub arithmetic_holds : (o : BinOp) (a : ArithOp) → IsArithmetic o a → (e x y : Expr) → out-ExprKind e.kind ≡ level.Binary o x y → IsHeld x
+      → IsHeld y → IsHeld e
   arithmetic_holds o a ar e x y is hx hy =
       let code = ar.code (expr_code b x) (expr_code b y) e.id in
       subst (As p most b whole script e)

@@ -1,5 +1,5 @@
 -- `...`, what stands in parentheses, and expressions with a jump of their own.
-use Rattle.std.proofs.Common.{◌≡◌, ℕ, ◌≤◌, ℤ, Bool, true, false, List, [], ◌∷◌, length, Option, Some, None, refl, sym, arith, subst}
+use Rattle.std.proofs.Common.{◌≡◌, ℕ, ◌≤◌, Bool, true, false, List, [], ◌∷◌, length, Some, None, refl, sym, subst}
 use Rattle.syntax_tree.specs.declared.bindings.Bindings.{Bindings}
 use Rattle.syntax_tree.specs.declared.tree.Expr.{Expr}
 use Rattle.syntax_tree.specs.declared.tree.ExprKind.{out-ExprKind}
@@ -11,9 +11,7 @@ use Rattle.source_meaning.specs.Levels.{ExprLevel}
 use Rattle.code_link.specs.Labels.{place_in}
 use Rattle.emit_expr.specs.declared.draft.Emitter.{Emitter}
 use Rattle.emit_expr.specs.Puts.{Step, insn}
-use Rattle.node_code.specs.Nodes.{ExprCode, NoTarget, decided}
-use Rattle.node_code.specs.Code as code
-use Rattle.node_code.specs.Code.{expr_code}
+use Rattle.node_code.specs.Nodes.{NoTarget, decided}
 use Rattle.scope_laws.specs.Sight.{Part, expr}
 use Rattle.code_simulation.specs.Slots.{Slot}
 use Rattle.code_simulation.specs.Relation.{Setting}
@@ -28,7 +26,7 @@ use Rattle.compiled_runs.proofs.Places.{here}
 use Rattle.compiled_runs.proofs.Scopes.{some_none}
 use Rattle.compiled_runs.proofs.Standing.{Script}
 use Rattle.compiled_runs.proofs.NodeLevels.{code_of}
-use Rattle.compiled_runs.proofs.Nodes.{Runs, In, Stand, reads, As, ValueRuns, made_as}
+use Rattle.compiled_runs.proofs.Nodes.{Runs, Stand, reads, As, ValueRuns, made_as}
 use Rattle.compiled_runs.proofs.Following.{parts}
 use Rattle.compiled_runs.proofs.Leaves.{Holds}
 
