@@ -27,6 +27,7 @@ pub mod Locals
 pub mod Blocks
 pub mod Branches
 pub mod Loops
+pub mod LocalFunctions
 pub mod CallStatements
 pub mod Returns
 pub mod Assigns
