@@ -34,3 +34,4 @@ pub mod Assigns
 pub mod Chunks
 pub mod Bodies
 pub mod Trees
+pub mod NumericRuns
