@@ -8,7 +8,7 @@ use Rattle.syntax_tree.specs.declared.tree.ExprKind.TheOpen as level
 use Rattle.syntax_tree.specs.declared.tree.Stat.{Stat}
 use Rattle.syntax_tree.specs.declared.tree.StatKind.{out-StatKind}
 use Rattle.value_model.specs.Values.{Value, Nil, Text, Bytes}
-use Rattle.value_model.specs.Choices.{Operation, Index, Newindex}
+use Rattle.value_model.specs.Choices.{Index, Newindex}
 use Rattle.source_meaning.specs.Levels.{ExprLevel}
 use Rattle.source_meaning.specs.States.{Node, Target, ToField, of_expr, of_stat, cell_of}
 use Rattle.source_meaning.specs.States as source
@@ -24,17 +24,16 @@ use Rattle.machine_meaning.specs.Effects as effects
 use Rattle.code_simulation.specs.Slots.{Slot, Temp, local_at, temps, Tags, Fits}
 use Rattle.code_simulation.specs.Relation.{Dyn, cells_m, Setting}
 use Rattle.code_simulation.proofs.Along.{Alike, CallsGo, File, Here, inside, frame, env_of, Reads, source_at, machine_at, Has, Same}
-use Rattle.code_simulation.proofs.Parts.{Sight, in_register, ExprRuns, OperandRuns, Operates, ListRuns}
+use Rattle.code_simulation.proofs.Parts.{Sight, in_register, ExprRuns, OperandRuns, ListRuns}
 use Rattle.code_simulation.proofs.Names.{binds_temps, local_temps, length_temps, steady_all}
 use Rattle.code_simulation.proofs.World.{drop_slot, temp_reg, fits_temps, top_is, pop, pop_all}
 use Rattle.code_simulation.proofs.Moving.{source_goes, target_goes}
 use Rattle.code_simulation.proofs.Registers.{row_here}
 use Rattle.code_simulation.proofs.Operations.{operation_here, value_here}
 use Rattle.code_simulation.proofs.Values.{own_stays}
-use Rattle.code_simulation.proofs.Operators.{IsOperation}
 use Rattle.code_simulation.proofs.Blocks.{Jumps, StatRuns, stat_row}
 use Rattle.code_simulation.proofs.Assigns.{Writes, write_same}
-use Rattle.code_simulation.proofs.Updates.{updates}
+use Rattle.code_simulation.proofs.Updates.{StoreRuns, Finishes, updates}
 use Rattle.code_simulation.proofs.Indexing.{table_operates, name_row}
 
 -- ---- targets
@@ -330,54 +329,59 @@ module _ (p : Setting) (most : ℕ) (calls : (i : ℕ) → i ≤ most → CallsG
 
   -- ---- compound assignments
 
+  -- what is in the first free register is stored where a target's values stand below it
+  pub store_member : (node : Node) (v : Value) (x : StrId) (h : Here p most) (l : List Slot) (next to : ℕ)
+      → WritesTo p most h l (length l) (suc (length l)) next to (AtMember x) → suc (suc (length l)) ≤ h.proto.registers
+      → StoreRuns p most calls node (ToField v (Text (text_of p.texts x))) h (Temp v ∷ l) next to
+  store_member node v x h l next to writes room left le k z d file w go =
+      store_same (AtMember x) v Nil z node (length l) (suc (length l)) h l (Temp z ∷ Temp v ∷ l) next to left le k [] [] d file writes (λ y. refl) refl room
+      (temp_reg (drop_slot w.fits)) (top_is w) w go _ refl
+
+  pub store_index : (node : Node) (v u : Value) (h : Here p most) (l : List Slot) (next to : ℕ)
+      → WritesTo p most h l (length l) (suc (suc (length l))) next to AtIndex → suc (suc (suc (length l))) ≤ h.proto.registers
+      → StoreRuns p most calls node (ToField v u) h (Temp u ∷ Temp v ∷ l) next to
+  store_index node v u h l next to writes room left le k z d file w go =
+      store_same AtIndex v u z node (length l) (suc (suc (length l))) h l (Temp z ∷ Temp u ∷ Temp v ∷ l) next to left le k [] [] d file writes
+      (λ y. refl) refl room (temp_reg (drop_slot (drop_slot w.fits)), temp_reg (drop_slot w.fits)) (top_is w) w go _ refl
+
   -- to what a table holds under a name
-  pub compound_member_same : (s : Stat) (o : BinOp) (operation : Value → Value → Operation) (t b : Expr) (x : StrId) (c : ℕ) (own2 : Bool) (sees2 : Sight)
-      (h : Here p most) (l : List Slot) (j : Jumps) (from mid on last next to : ℕ) → IsOperation o operation (source.Wants source.One)
-      → out-StatKind s.kind ≡ level.Compound o t b → AimRuns p most t (AtMember x) h l from mid
+  pub compound_member_same : (s : Stat) (o : BinOp) (t b : Expr) (x : StrId) (c : ℕ) (own2 : Bool) (sees2 : Sight) (h : Here p most) (l : List Slot)
+      (j : Jumps) (from mid on last to : ℕ) → out-StatKind s.kind ≡ level.Compound o t b → AimRuns p most t (AtMember x) h l from mid
       → name_at p.chunk h.number c ≡ Some (text_of p.texts x) → Reads p most h mid (insn.GetTableKS (suc (length l)) (length l) c) on
       → ((v old : Value) → OperandRuns p most b h (Temp old ∷ Temp v ∷ l) on last own2 sees2)
-      → Operates p most h last operation (in_register (suc (length l))) sees2 (suc (length l)) next
-      → WritesTo p most h l (length l) (suc (length l)) next to (AtMember x) → suc (suc (length l)) ≤ h.proto.registers
-      → StatRuns p most s h l j from to (λ c. l)
-  compound_member_same s o operation t b x c own2 sees2 h l j from mid on last next to is kind aims name reads b_runs operates writes room
-      left le k d file w ways go =
+      → ((v : Value) → Finishes p most calls (of_stat s) o (ToField v (Text (text_of p.texts x))) h (Temp v ∷ l) (in_register (suc (length l))) sees2 last to)
+      → suc (length l) ≤ h.proto.registers → StatRuns p most s h l j from to (λ c. l)
+  compound_member_same s o t b x c own2 sees2 h l j from mid on last to kind aims name reads b_runs finishes room left le k d file w ways go =
       let key = Text (text_of p.texts x) in
       source_goes p (stat_row p most s _ h l k d kind)
       (aims left le (source.Updates (of_stat s) o b ∷ k) d file w
       (λ i lt v u d2 file2 w2.
       value_here p most calls (Index v key) h (Temp v ∷ l) i (omega (arith, le, lt)) (of_stat s) (source.Reads (of_stat s) o (ToField v key) b ∷ k) mid on
-      file2 file2 d2 (omega (arith, room)) w2 (steady_all (Temp v ∷ l) file2.registers)
+      file2 file2 d2 room w2 (steady_all (Temp v ∷ l) file2.registers)
       (λ n lt2 old d3 file3 w3 steady.
-      updates p most calls (of_stat s) o operation b (ToField v key) true (in_register (suc (length l))) own2 sees2 h (Temp v ∷ l) on last next to n
-      (omega (arith, le, lt, lt2)) k old d3 file3 is w3 (top_is w3) (own_stays p most h (Temp v ∷ l)) (b_runs v) operates
-      (λ m lt3 k z d4 file4 w4 go. store_same (AtMember x) v Nil z (of_stat s) (length l) (suc (length l)) h l (Temp z ∷ Temp v ∷ l) next to m lt3 k
-      [] [] d4 file4 writes (λ y. refl) refl room (temp_reg (drop_slot w4.fits)) (top_is w4) w4 go _ refl)
-      room (λ m lt3 d4 file4 w4. go m (omega (arith, lt, lt2, lt3)) 0 d4 file4 (pop w4)))
+      updates p most calls (of_stat s) o b (ToField v key) true (in_register (suc (length l))) own2 sees2 h (Temp v ∷ l) on last to n
+      (omega (arith, le, lt, lt2)) k old d3 file3 w3 (top_is w3) (own_stays p most h (Temp v ∷ l)) (b_runs v) (finishes v)
+      (λ m lt3 d4 file4 w4. go m (omega (arith, lt, lt2, lt3)) 0 d4 file4 (pop w4)))
       _ _ refl
       (name_row p most h mid (length l) c (suc (length l)) on v (text_of p.texts x) d2 file2 reads name (top_is w2))))
 
   -- and under a key
-  pub compound_index_same : (s : Stat) (o : BinOp) (operation : Value → Value → Operation) (t b : Expr) (own2 : Bool) (sees2 : Sight)
-      (h : Here p most) (l : List Slot) (j : Jumps) (from mid on last next to : ℕ) → IsOperation o operation (source.Wants source.One)
-      → out-StatKind s.kind ≡ level.Compound o t b → AimRuns p most t AtIndex h l from mid
+  pub compound_index_same : (s : Stat) (o : BinOp) (t b : Expr) (own2 : Bool) (sees2 : Sight) (h : Here p most) (l : List Slot) (j : Jumps)
+      (from mid on last to : ℕ) → out-StatKind s.kind ≡ level.Compound o t b → AimRuns p most t AtIndex h l from mid
       → Reads p most h mid (insn.GetTable (suc (suc (length l))) (length l) (suc (length l))) on
       → ((v u old : Value) → OperandRuns p most b h (Temp old ∷ Temp u ∷ Temp v ∷ l) on last own2 sees2)
-      → Operates p most h last operation (in_register (suc (suc (length l)))) sees2 (suc (suc (length l))) next
-      → WritesTo p most h l (length l) (suc (suc (length l))) next to AtIndex → suc (suc (suc (length l))) ≤ h.proto.registers
-      → StatRuns p most s h l j from to (λ c. l)
-  compound_index_same s o operation t b own2 sees2 h l j from mid on last next to is kind aims reads b_runs operates writes room
-      left le k d file w ways go =
+      → ((v u : Value) → Finishes p most calls (of_stat s) o (ToField v u) h (Temp u ∷ Temp v ∷ l) (in_register (suc (suc (length l)))) sees2 last to)
+      → suc (suc (length l)) ≤ h.proto.registers → StatRuns p most s h l j from to (λ c. l)
+  compound_index_same s o t b own2 sees2 h l j from mid on last to kind aims reads b_runs finishes room left le k d file w ways go =
       source_goes p (stat_row p most s _ h l k d kind)
       (aims left le (source.Updates (of_stat s) o b ∷ k) d file w
       (λ i lt v u d2 file2 w2.
       let l2 : List Slot = Temp u ∷ Temp v ∷ l in
       value_here p most calls (Index v u) h l2 i (omega (arith, le, lt)) (of_stat s) (source.Reads (of_stat s) o (ToField v u) b ∷ k) mid on
-      file2 file2 d2 (omega (arith, room)) w2 (steady_all l2 file2.registers)
+      file2 file2 d2 room w2 (steady_all l2 file2.registers)
       (λ n lt2 old d3 file3 w3 steady.
-      updates p most calls (of_stat s) o operation b (ToField v u) true (in_register (suc (suc (length l)))) own2 sees2 h l2 on last next to n
-      (omega (arith, le, lt, lt2)) k old d3 file3 is w3 (top_is w3) (own_stays p most h l2) (b_runs v u) operates
-      (λ m lt3 k z d4 file4 w4 go. store_same AtIndex v u z (of_stat s) (length l) (suc (suc (length l))) h l (Temp z ∷ l2) next to m lt3 k
-      [] [] d4 file4 writes (λ y. refl) refl room (temp_reg (drop_slot (drop_slot w4.fits)), temp_reg (drop_slot w4.fits)) (top_is w4) w4 go _ refl)
-      room (λ m lt3 d4 file4 w4. go m (omega (arith, lt, lt2, lt3)) 0 d4 file4 (pop (pop w4))))
+      updates p most calls (of_stat s) o b (ToField v u) true (in_register (suc (suc (length l)))) own2 sees2 h l2 on last to n
+      (omega (arith, le, lt, lt2)) k old d3 file3 w3 (top_is w3) (own_stays p most h l2) (b_runs v u) (finishes v u)
+      (λ m lt3 d4 file4 w4. go m (omega (arith, lt, lt2, lt3)) 0 d4 file4 (pop (pop w4))))
       _ _ refl
       (table_operates p most h mid (length l) (suc (length l)) (suc (suc (length l))) on reads v u d2 file2 (temp_reg (drop_slot w2.fits)) (top_is w2))))

@@ -35,6 +35,8 @@ pub mod Repeats
 pub mod Concats
 pub mod Indexing
 pub mod Fields
+pub mod Compounds
+pub mod Tables
 pub mod Methods
 pub mod Bounds
 pub mod Singles

@@ -1,4 +1,4 @@
--- Local functions, and compound assignments to names.
+-- Local functions, and compound assignments to names, by what is done where both operands are given.
 use Rattle.std.proofs.Common.{Bool, true, false, ◌≡◌, ℕ, suc, ◌≤◌, pos, List, [], ◌∷◌, ◌++◌, length, Option, Some, None, refl, sym, ap, ◌∙◌, subst, arith, cond}
 use Rattle.std.specs.Prelude.{slice_get, slice_set, slice_index_or}
 use Rattle.std.proofs.lemmas.Bool.{eq-eqb}
@@ -91,47 +91,56 @@ module _ (p : Setting) (most : ℕ) (calls : (i : ℕ) → i ≤ most → CallsG
       → ((i : ℕ) → i ≤ left → (d2 : Dyn) (file2 : File) → Has p most h i (Temp v ∷ l) d2 file2 → Same p most h i (source.Store [] []) k l d2 next file2)
       → Same p most h left (source.Store ((node, target) ∷ []) (v ∷ [])) k l d place file
 
-  store_name : (x : StrId) (node : Node) (h : Here p most) (l : List Slot) (place next : ℕ) → Writes p most h l x (length l) place next
+  pub store_name : (x : StrId) (node : Node) (h : Here p most) (l : List Slot) (place next : ℕ) → Writes p most h l x (length l) place next
       → suc (length l) ≤ h.proto.registers → StoreRuns node (statements.target_of (cell_of (env_of p most h l) x) x) h l place next
   store_name x node h l place next writes room left le k v d file w go =
       write_same p most calls x node (length l) h l (Temp v ∷ l) place next left le k [] [] v d file writes refl refl room (top_is w) w go _ refl
 
+  -- both operands are given, and what comes of the operator is stored
+  abbrev pub Finishes : Node → BinOp → Target → Here p most → List Slot → (left_sees right_sees : Sight) → (last to : ℕ) → Type 0
+  Finishes node o target h l sees1 sees2 last to =
+      (left : ℕ) → left ≤ most → (k : List source.Frame) (v u : Value) (d : Dyn) (file : File) → Has p most h left l d file → sees1 file.registers v
+      → sees2 file.registers u
+      → ((i : ℕ) → i ≤ left → (d2 : Dyn) (file2 : File) → Has p most h i l d2 file2 → Same p most h i source.Done k l d2 to file2)
+      → Same p most h left (source.Give u) (source.RightOperand node o v ∷ source.StoresIn node target ∷ k) l d last file
+
+  -- by way of the first free register
+  pub finish_stored : (node : Node) (o : BinOp) (operation : Value → Value → Operation) (target : Target) (h : Here p most) (l : List Slot)
+      (sees1 sees2 : Sight) (last next to : ℕ) → IsOperation o operation (source.Wants source.One)
+      → Operates p most h last operation sees1 sees2 (length l) next → StoreRuns node target h l next to → suc (length l) ≤ h.proto.registers
+      → Finishes node o target h l sees1 sees2 last to
+  finish_stored node o operation target h l sees1 sees2 last next to is operates stores room left le k v u d file w see1 see2 go =
+      value_here p most calls (operation v u) h l left le node (source.StoresIn node target ∷ k) last next file file d
+      (omega (arith, room)) w (steady_all l file.registers)
+      (λ n lt z d2 file2 w2 steady.
+      source_goes p refl
+      (stores n (omega (arith, le, lt)) k z d2 file2 w2
+      (λ m lt2 d3 file3 w3. source_goes p refl (go m (omega (arith, lt, lt2)) d3 file3 (pop w3)))))
+      _ _
+      (operate_row p most o operation (source.Wants source.One) node v u h l (source.StoresIn node target ∷ k) d is)
+      (operates v u d file see1 see2)
+
   -- the rest of a compound assignment, where the value that was there is given
-  pub updates : (node : Node) (o : BinOp) (operation : Value → Value → Operation) (b : Expr) (target : Target) (own1 : Bool) (sees1 : Sight) (own2 : Bool)
-      (sees2 : Sight) (h : Here p most) (l : List Slot) (mid last next to left : ℕ) → left ≤ most
-      → (k : List source.Frame) (v : Value) (d : Dyn) (file : File) → IsOperation o operation (source.Wants source.One)
+  pub updates : (node : Node) (o : BinOp) (b : Expr) (target : Target) (own1 : Bool) (sees1 : Sight) (own2 : Bool) (sees2 : Sight) (h : Here p most)
+      (l : List Slot) (mid last to left : ℕ) → left ≤ most → (k : List source.Frame) (v : Value) (d : Dyn) (file : File)
       → Has p most h left (over own1 v l) d file → sees1 file.registers v → Stays p most h l own1 sees1
-      → ((v : Value) → OperandRuns p most b h (over own1 v l) mid last own2 sees2) → Operates p most h last operation sees1 sees2 (length l) next
-      → StoreRuns node target h l next to → suc (length l) ≤ h.proto.registers
+      → ((v : Value) → OperandRuns p most b h (over own1 v l) mid last own2 sees2) → Finishes node o target h l sees1 sees2 last to
       → ((i : ℕ) → i ≤ left → (d2 : Dyn) (file2 : File) → Has p most h i l d2 file2 → Same p most h i source.Done k l d2 to file2)
       → Same p most h left (source.Give v) (source.Reads node o target b ∷ k) l d mid file
-  updates node o operation b target own1 sees1 own2 sees2 h l mid last next to left le k v d file is w see stays b_runs operates stores room go =
-      source_goes p refl (evaluated own1 w stays b_runs)
-    where
-      both : (i : ℕ) → i ≤ left → (u : Value) (d2 : Dyn) (file2 : File) → Has p most h i l d2 file2 → sees1 file2.registers v
-          → sees2 file2.registers u → Same p most h i (source.Give u) (source.RightOperand node o v ∷ source.StoresIn node target ∷ k) l d2 last file2
-      both i lt u d2 file2 w2 see1 see2 =
-          value_here p most calls (operation v u) h l i (omega (arith, le, lt)) node (source.StoresIn node target ∷ k) last next file2 file2 d2
-          (omega (arith, room)) w2 (steady_all l file2.registers)
-          (λ n lt2 z d3 file3 w3 steady.
-          source_goes p refl
-          (stores n (omega (arith, le, lt, lt2)) k z d3 file3 w3
-          (λ m lt3 d4 file4 w4. source_goes p refl (go m (omega (arith, lt, lt2, lt3)) d4 file4 (pop w4)))))
-          _ _
-          (operate_row p most o operation (source.Wants source.One) node v u h l (source.StoresIn node target ∷ k) d2 is)
-          (operates v u d2 file2 see1 see2)
-
-      evaluated : (own : Bool) → Has p most h left (over own v l) d file → Stays p most h l own sees1
-          → ((v : Value) → OperandRuns p most b h (over own v l) mid last own2 sees2)
-          → Same p most h left (source.Evaluate b) (source.RightOperand node o v ∷ source.StoresIn node target ∷ k) l d mid file
-      evaluated true w stays b_runs =
-          b_runs v left le (source.RightOperand node o v ∷ source.StoresIn node target ∷ k) d file w
-          (λ i lt u d2 file2 w2 see2 steady.
-          let w3 = under p most own2 u h (Temp v ∷ l) d2 file2 w2 in both i lt u d2 file2 (pop w3) (stays i v d2 file.registers file2 see w3 steady) see2)
-      evaluated false w stays b_runs =
-          b_runs v left le (source.RightOperand node o v ∷ source.StoresIn node target ∷ k) d file w
-          (λ i lt u d2 file2 w2 see2 steady.
-          let w3 = under p most own2 u h l d2 file2 w2 in both i lt u d2 file2 w3 (stays i v d2 file.registers file2 see w3 steady) see2)
+  updates node o b target true sees1 own2 sees2 h l mid last to left le k v d file w see stays b_runs finishes go =
+      source_goes p refl
+      (b_runs v left le (source.RightOperand node o v ∷ source.StoresIn node target ∷ k) d file w
+      (λ i lt u d2 file2 w2 see2 steady.
+      let w3 = under p most own2 u h (Temp v ∷ l) d2 file2 w2 in
+      finishes i (omega (arith, le, lt)) k v u d2 file2 (pop w3) (stays i v d2 file.registers file2 see w3 steady) see2
+      (λ n lt2. go n (omega (arith, lt, lt2)))))
+  updates node o b target false sees1 own2 sees2 h l mid last to left le k v d file w see stays b_runs finishes go =
+      source_goes p refl
+      (b_runs v left le (source.RightOperand node o v ∷ source.StoresIn node target ∷ k) d file w
+      (λ i lt u d2 file2 w2 see2 steady.
+      let w3 = under p most own2 u h l d2 file2 w2 in
+      finishes i (omega (arith, le, lt)) k v u d2 file2 w3 (stays i v d2 file.registers file2 see w3 steady) see2
+      (λ n lt2. go n (omega (arith, lt, lt2)))))
 
   -- the script reads a local variable that is to be assigned
   reads_local : (s : Stat) (o : BinOp) (t b : Expr) (x : StrId) (v : Local) (h : Here p most) (l : List Slot) (left : ℕ) (k : List source.Frame)
@@ -148,39 +157,34 @@ module _ (p : Setting) (most : ℕ) (calls : (i : ℕ) → i ≤ most → CallsG
       (look_in l h.act.outer x v found)) go))
 
   -- a compound assignment to a local that no closure may capture: it is read where it stands
-  pub compound_in_place : (s : Stat) (o : BinOp) (operation : Value → Value → Operation) (t b : Expr) (x : StrId) (v : Local) (own2 : Bool)
-      (sees2 : Sight) (h : Here p most) (l : List Slot) (j : Jumps) (from last next to : ℕ) → IsOperation o operation (source.Wants source.One)
-      → out-StatKind s.kind ≡ level.Compound o t b → out-ExprKind t.kind ≡ level.Name x → local_at l x ≡ Some v → v.captured ≡ false
-      → OperandRuns p most b h l from last own2 sees2 → Operates p most h last operation (in_register v.register) sees2 (length l) next
-      → Writes p most h l x (length l) next to → suc (length l) ≤ h.proto.registers → StatRuns p most s h l j from to (λ c. l)
-  compound_in_place s o operation t b x v own2 sees2 h l j from last next to is kind name found plain b_runs operates writes room left le k d file w ways go =
+  pub compound_in_place : (s : Stat) (o : BinOp) (t b : Expr) (x : StrId) (v : Local) (own2 : Bool) (sees2 : Sight) (h : Here p most) (l : List Slot)
+      (j : Jumps) (from last to : ℕ) → out-StatKind s.kind ≡ level.Compound o t b → out-ExprKind t.kind ≡ level.Name x → local_at l x ≡ Some v
+      → v.captured ≡ false → OperandRuns p most b h l from last own2 sees2
+      → Finishes (of_stat s) o (statements.target_of (cell_of (env_of p most h l) x) x) h l (in_register v.register) sees2 last to
+      → StatRuns p most s h l j from to (λ c. l)
+  compound_in_place s o t b x v own2 sees2 h l j from last to kind name found plain b_runs finishes left le k d file w ways go =
       reads_local s o t b x v h l left k d _ kind name found
-      (updates (of_stat s) o operation b (statements.target_of (cell_of (env_of p most h l) x) x) false (in_register v.register) own2 sees2 h l from last
-      next to left le k
-      (at (cells_s d) v.cell) d file is w (read_plain x v found plain w) (local_stays p most x v h l found plain)
-      (λ u. b_runs) operates
-      (store_name x (of_stat s) h l next to writes room) room (λ i lt. go i lt 0))
+      (updates (of_stat s) o b (statements.target_of (cell_of (env_of p most h l) x) x) false (in_register v.register) own2 sees2 h l from last to left le k
+      (at (cells_s d) v.cell) d file w (read_plain x v found plain w) (local_stays p most x v h l found plain) (λ u. b_runs) finishes
+      (λ i lt. go i lt 0))
 
   -- and to any local, whose value is copied first
-  pub compound_copied : (s : Stat) (o : BinOp) (operation : Value → Value → Operation) (t b : Expr) (x : StrId) (v : Local) (own2 : Bool)
-      (sees2 : Sight) (h : Here p most) (l : List Slot) (j : Jumps) (from mid last next to : ℕ) → IsOperation o operation (source.Wants source.One)
-      → out-StatKind s.kind ≡ level.Compound o t b → out-ExprKind t.kind ≡ level.Name x → local_at l x ≡ Some v
+  pub compound_copied : (s : Stat) (o : BinOp) (t b : Expr) (x : StrId) (v : Local) (own2 : Bool) (sees2 : Sight) (h : Here p most) (l : List Slot)
+      (j : Jumps) (from mid last to : ℕ) → out-StatKind s.kind ≡ level.Compound o t b → out-ExprKind t.kind ≡ level.Name x → local_at l x ≡ Some v
       → Reads p most h from (insn.Move (length l) v.register) mid → ((u : Value) → OperandRuns p most b h (Temp u ∷ l) mid last own2 sees2)
-      → Operates p most h last operation (in_register (length l)) sees2 (length l) next → Writes p most h l x (length l) next to
-      → suc (length l) ≤ h.proto.registers → StatRuns p most s h l j from to (λ c. l)
-  compound_copied s o operation t b x v own2 sees2 h l j from mid last next to is kind name found reads b_runs operates writes room left le k d file w ways go =
+      → Finishes (of_stat s) o (statements.target_of (cell_of (env_of p most h l) x) x) h l (in_register (length l)) sees2 last to
+      → StatRuns p most s h l j from to (λ c. l)
+  compound_copied s o t b x v own2 sees2 h l j from mid last to kind name found reads b_runs finishes left le k d file w ways go =
+      let target = statements.target_of (cell_of (env_of p most h l) x) x in
       reads_local s o t b x v h l left k d _ kind name found
-      (subst (λ u. Alike p left (source_at p most h (source.Give u) (source.Reads (of_stat s) o
-      (statements.target_of (cell_of (env_of p most h l) x) x) b ∷ k) (env_of p most h l) d) (machine_at p most h from file d))
-      (sym (read x v found w))
-      (given p most h machine.Idle l mid from left (source.Reads (of_stat s) o (statements.target_of (cell_of (env_of p most h l) x) x) b ∷ k)
+      (subst (λ u. Alike p left (source_at p most h (source.Give u) (source.Reads (of_stat s) o target b ∷ k) (env_of p most h l) d)
+      (machine_at p most h from file d)) (sym (read x v found w))
+      (given p most h machine.Idle l mid from left (source.Reads (of_stat s) o target b ∷ k)
       (held (cells_m d) (file.registers v.register)) d file file _ w (steady_all l file.registers)
       (row_here p most h from mid file d (insn.Move (length l) v.register) reads)
       (λ i lt u d2 file2 w2 steady.
-      updates (of_stat s) o operation b (statements.target_of (cell_of (env_of p most h l) x) x) true (in_register (length l)) own2 sees2 h l mid last
-      next to i (omega (arith, le, lt)) k u d2 file2 is w2
-      (top_is w2) (own_stays p most h l) b_runs operates
-      (store_name x (of_stat s) h l next to writes room) room (λ n lt2. go n (omega (arith, lt, lt2)) 0))))
+      updates (of_stat s) o b target true (in_register (length l)) own2 sees2 h l mid last to i (omega (arith, le, lt)) k u d2 file2 w2 (top_is w2)
+      (own_stays p most h l) b_runs finishes (λ n lt2. go n (omega (arith, lt, lt2)) 0))))
 
   -- the script aims at a name that is to be assigned, and reads what it means
   reads_name : (s : Stat) (o : BinOp) (t b : Expr) (x : StrId) (c : Option ℕ) (h : Here p most) (l : List Slot) (left : ℕ) (k : List source.Frame)
@@ -197,45 +201,40 @@ module _ (p : Setting) (most : ℕ) (calls : (i : ℕ) → i ≤ most → CallsG
       (source.Reads (of_stat s) o (statements.target_of (cell_of (env_of p most h l) x) x) b ∷ k) (env_of p most h l) d.script) found)))
 
   -- a compound assignment to an upvalue
-  pub compound_upvalue : (s : Stat) (o : BinOp) (operation : Value → Value → Operation) (t b : Expr) (x : StrId) (u : ℕ) (own2 : Bool)
-      (sees2 : Sight) (h : Here p most) (l : List Slot) (j : Jumps) (from mid last next to : ℕ) → IsOperation o operation (source.Wants source.One)
-      → out-StatKind s.kind ≡ level.Compound o t b → out-ExprKind t.kind ≡ level.Name x → local_at l x ≡ None → slice_get h.act.ups u ≡ Some x
-      → Reads p most h from (insn.GetUpvalue (length l) u) mid → ((v : Value) → OperandRuns p most b h (Temp v ∷ l) mid last own2 sees2)
-      → Operates p most h last operation (in_register (length l)) sees2 (length l) next → Writes p most h l x (length l) next to
-      → suc (length l) ≤ h.proto.registers → StatRuns p most s h l j from to (λ c. l)
-  compound_upvalue s o operation t b x u own2 sees2 h l j from mid last next to is kind name out up reads b_runs operates writes room
-      left le k d file w ways go =
+  pub compound_upvalue : (s : Stat) (o : BinOp) (t b : Expr) (x : StrId) (u : ℕ) (own2 : Bool) (sees2 : Sight) (h : Here p most) (l : List Slot)
+      (j : Jumps) (from mid last to : ℕ) → out-StatKind s.kind ≡ level.Compound o t b → out-ExprKind t.kind ≡ level.Name x → local_at l x ≡ None
+      → slice_get h.act.ups u ≡ Some x → Reads p most h from (insn.GetUpvalue (length l) u) mid
+      → ((v : Value) → OperandRuns p most b h (Temp v ∷ l) mid last own2 sees2)
+      → Finishes (of_stat s) o (statements.target_of (cell_of (env_of p most h l) x) x) h l (in_register (length l)) sees2 last to
+      → StatRuns p most s h l j from to (λ c. l)
+  compound_upvalue s o t b x u own2 sees2 h l j from mid last to kind name out up reads b_runs finishes left le k d file w ways go =
       let c = read_up x u up w in
-      let after = source.Reads (of_stat s) o (statements.target_of (cell_of (env_of p most h l) x) x) b ∷ k in
+      let target = statements.target_of (cell_of (env_of p most h l) x) x in
+      let after = source.Reads (of_stat s) o target b ∷ k in
       reads_name s o t b x (Some c.0) h l left k d _ kind name (look_out l h.act.outer x out ∙ c.1)
       (λ s2 row. source_goes p (row ∙ ap (λ v. source_moves.now (source.Give v) (inside p most h) after (env_of p most h l) d.script) c.2)
       (given p most h machine.Idle l mid from left after (at (cells_m d) (slice_index_or h.act.cells u 0)) d file file _ w (steady_all l file.registers)
       (row_here p most h from mid file d (insn.GetUpvalue (length l) u) reads)
       (λ i lt v d2 file2 w2 steady.
-      updates (of_stat s) o operation b (statements.target_of (cell_of (env_of p most h l) x) x) true (in_register (length l)) own2 sees2 h l mid last
-      next to i (omega (arith, le, lt)) k v d2 file2 is w2
-      (top_is w2) (own_stays p most h l) b_runs operates
-      (store_name x (of_stat s) h l next to writes room) room (λ n lt2. go n (omega (arith, lt, lt2)) 0))))
+      updates (of_stat s) o b target true (in_register (length l)) own2 sees2 h l mid last to i (omega (arith, le, lt)) k v d2 file2 w2 (top_is w2)
+      (own_stays p most h l) b_runs finishes (λ n lt2. go n (omega (arith, lt, lt2)) 0))))
 
   -- and to a global
-  pub compound_global : (s : Stat) (o : BinOp) (operation : Value → Value → Operation) (t b : Expr) (x : StrId) (c : ℕ) (own2 : Bool)
-      (sees2 : Sight) (h : Here p most) (l : List Slot) (j : Jumps) (from mid last next to : ℕ) → IsOperation o operation (source.Wants source.One)
-      → out-StatKind s.kind ≡ level.Compound o t b → out-ExprKind t.kind ≡ level.Name x → local_at l x ≡ None → cell_of h.act.outer x ≡ None
-      → name_at p.chunk h.number c ≡ Some (text_of p.texts x) → Reads p most h from (insn.GetGlobal (length l) c) mid
-      → ((v : Value) → OperandRuns p most b h (Temp v ∷ l) mid last own2 sees2)
-      → Operates p most h last operation (in_register (length l)) sees2 (length l) next → Writes p most h l x (length l) next to
-      → suc (length l) ≤ h.proto.registers → StatRuns p most s h l j from to (λ c. l)
-  compound_global s o operation t b x c own2 sees2 h l j from mid last next to is kind name out none text reads b_runs operates writes room
-      left le k d file w ways go =
-      let after = source.Reads (of_stat s) o (statements.target_of (cell_of (env_of p most h l) x) x) b ∷ k in
+  pub compound_global : (s : Stat) (o : BinOp) (t b : Expr) (x : StrId) (c : ℕ) (own2 : Bool) (sees2 : Sight) (h : Here p most) (l : List Slot)
+      (j : Jumps) (from mid last to : ℕ) → out-StatKind s.kind ≡ level.Compound o t b → out-ExprKind t.kind ≡ level.Name x → local_at l x ≡ None
+      → cell_of h.act.outer x ≡ None → name_at p.chunk h.number c ≡ Some (text_of p.texts x)
+      → Reads p most h from (insn.GetGlobal (length l) c) mid → ((v : Value) → OperandRuns p most b h (Temp v ∷ l) mid last own2 sees2)
+      → Finishes (of_stat s) o (statements.target_of (cell_of (env_of p most h l) x) x) h l (in_register (length l)) sees2 last to
+      → length l ≤ h.proto.registers → StatRuns p most s h l j from to (λ c. l)
+  compound_global s o t b x c own2 sees2 h l j from mid last to kind name out none text reads b_runs finishes room left le k d file w ways go =
+      let target = statements.target_of (cell_of (env_of p most h l) x) x in
+      let after = source.Reads (of_stat s) o target b ∷ k in
       reads_name s o t b x None h l left k d _ kind name (look_out l h.act.outer x out ∙ none)
       (λ s2 row. value_here p most calls (Index (Table (environment_of (store_s d) h.closure)) (Text (text_of p.texts x))) h l left le (of_stat s) after
-      from mid file file d (omega (arith, room)) w (steady_all l file.registers)
+      from mid file file d room w (steady_all l file.registers)
       (λ i lt v d2 file2 w2 steady.
-      updates (of_stat s) o operation b (statements.target_of (cell_of (env_of p most h l) x) x) true (in_register (length l)) own2 sees2 h l mid last
-      next to i (omega (arith, le, lt)) k v d2 file2 is w2
-      (top_is w2) (own_stays p most h l) b_runs operates
-      (store_name x (of_stat s) h l next to writes room) room (λ n lt2. go n (omega (arith, lt, lt2)) 0)) s2 _ row
+      updates (of_stat s) o b target true (in_register (length l)) own2 sees2 h l mid last to i (omega (arith, le, lt)) k v d2 file2 w2 (top_is w2)
+      (own_stays p most h l) b_runs finishes (λ n lt2. go n (omega (arith, lt, lt2)) 0)) s2 _ row
       (row_here p most h from mid file d (insn.GetGlobal (length l) c) reads
       ∙ ap (λ o. effects.with_name o (λ y. effects.index (Table (environment_of (store_m d) h.closure)) (Text y) (length l) mid)
       (frame p most h from file) h.below_m d.code) text

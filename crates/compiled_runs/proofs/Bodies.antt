@@ -57,7 +57,8 @@ use Rattle.compiled_runs.proofs.Turns.{any, ends_turn}
 use Rattle.compiled_runs.proofs.Statements.{AllPerform}
 use Rattle.compiled_runs.proofs.Locals.{here_declared, all_declared, first_seen, few_seen}
 use Rattle.compiled_runs.proofs.Blocks.{block_goes, AllAllowed, Last}
-use Rattle.compiled_runs.proofs.Chunks.{Linked, LinkedAt, Chunk, CodeOf, named_as_many, upvalue_named}
+use Rattle.compiled_runs.proofs.Chunks.{Linked, LinkedAt, Chunk, CodeOf, named_as_many}
+use Rattle.compiled_runs.proofs.Enclosed.{named_upvalue}
 
 -- ---- what the steps of a function leave
 
@@ -175,9 +176,9 @@ module _ (p : Setting) (b : Bindings) (whole : Emitter) (script : Script p b who
 
   -- so each function in one that runs is coded
   pub functions_coded : (most : ℕ) → FunctionsCoded p most b whole script
-  functions_coded most h r f ps l d a func s xs named =
+  functions_coded most h r f ps l d a func to s xs named =
       let seen = standing.sees p most b whole script h r (function f ∷ ps) l d a in
-      coded_at f (length l) d a.sight (ps ++ seen.0) (env_of p most h l) xs seen.1 s.protos s.strings
+      coded_at f to d a.sight (ps ++ seen.0) (env_of p most h l) xs seen.1 s.protos s.strings
       (λ x e. unseen p most b whole script h r (function f ∷ ps) l d a x e) named
 
   abbrev flags : ℕ → ℕ → Bool
@@ -219,9 +220,8 @@ module _ (p : Setting) (b : Bindings) (whole : Emitter) (script : Script p b who
           globals = c.globals;
           upvalues = λ x k e has.
               subst (λ n. slice_get h.act.ups (upvalue_in b n k) ≡ Some x) (sym is)
-              (upvalue_named b id c.from.scope h.act.ups k x (subst (λ n. length (upvalues_at b n) ≤ 256) is c.linked.few_upvalues) c.named
-              (sound (numbered script.main).main c.from (function f ∷ c.after) c.stands).0.rising
-              (subst (λ ks. Contains ks k) (sym listed) has) e);
+              (named_upvalue b id c.from.scope h.act.ups x k (sound (numbered script.main).main c.from (function f ∷ c.after) c.stands).0.rising c.named e
+              (subst (λ ks. Contains ks k) (sym listed) has) (subst (λ n. length (upvalues_at b n) ≤ 256) is c.linked.few_upvalues));
         }
 
     module _ (f : FuncBody) (h : Here p left) (c : CodeOf b whole (numbered script.main).main f h.act.outer h.act.ups h.proto) where

@@ -68,58 +68,9 @@ pub record CodeOf (b : Bindings) (whole : Emitter) (main : FuncBody) (func : Fun
   pub globals : (x : StrId) → look x from.scope ≡ None → cell_of around x ≡ None
   pub named : Named from.scope (upvalues_at b (out-FuncBody func).id) ups
 
--- ---- names of captured locals, by their places
-
-contains_none : (k : ℕ) → Contains [] k → ⊥
-contains_none k h = let lt = h.1 in omega (arith, lt)
-
-contains_cases : (x : ℕ) (xs : List ℕ) (y : ℕ) → Contains (x ∷ xs) y → (x ≡ y) ⊎ Contains xs y
-contains_cases x xs y h = told (Contains-append_cases (x ∷ []) xs y h) where
-  only : (i : ℕ) → i < length (x ∷ []) → slice_get (x ∷ []) i ≡ Some y → x ≡ y
-  only zero lt e = same_some e
-  only (suc i) lt e = absurd (omega (arith, lt))
-
-  told : Contains (x ∷ []) y ⊎ Contains xs y → (x ≡ y) ⊎ Contains xs y
-  told (inl c) = inl (only c.0 c.1 (slice_get-get_or (x ∷ []) c.0 y c.1 ∙ ap Some c.2))
-  told (inr c) = inr c
-
-false_true : false ≡ true → ⊥
-false_true e = cc
-
+-- each captured local has a name
 pub named_as_many : (vs : List Visible) (ks : List ℕ) (xs : List StrId) → Named vs ks xs → length ks ≡ length xs
 named_as_many vs [] [] n = refl
 named_as_many vs [] (x ∷ xs) n = absurd n
 named_as_many vs (k ∷ ks) [] n = absurd n
 named_as_many vs (k ∷ ks) (x ∷ xs) n = ap suc (named_as_many vs ks xs n.1)
-
--- a captured local's name is found at its place
-named_at : (vs : List Visible) (ks : List ℕ) (xs : List StrId) (k : ℕ) (x : StrId) → Named vs ks xs → Rising vs → Contains ks k → look x vs ≡ Some k
-    → (slice_get xs (place_in k ks) ≡ Some x) × (place_in k ks < length ks)
-named_at vs [] [] k x n rising c e = absurd (contains_none k c)
-named_at vs [] (y ∷ xs) k x n rising c e = absurd n
-named_at vs (j ∷ ks) [] k x n rising c e = absurd n
-named_at vs (j ∷ ks) (y ∷ xs) k x n rising c e =
-    by (nat_eq j k) refl (λ c2. named_at vs ks xs k x n.1 rising c2 e) (contains_cases j ks k c)
-  where
-    by : (t : Bool) → nat_eq j k ≡ t
-        → (Contains ks k → (slice_get xs (place_in k ks) ≡ Some x) × (place_in k ks < length ks)) → (j ≡ k) ⊎ Contains ks k
-        → (slice_get (y ∷ xs) (if t then 0 else 1 + place_in k ks) ≡ Some x) × ((if t then 0 else 1 + place_in k ks) < length (j ∷ ks))
-    by true is rest cases =
-        let same : look y vs ≡ Some k = n.0 ∙ ap Some (eqb-true j k is) in
-        (ap (λ (m : ℕ). Some (record { 0 = m })) (one_name y x k vs rising same e), omega arith)
-    by false is rest (inl same) = absurd (false_true (sym is ∙ eq-eqb j k same))
-    by false is rest (inr c2) =
-        let r = rest c2 in
-        let one : suc (place_in k ks) ≡ 1 + place_in k ks = omega arith in
-        let lt = r.1 in
-        (subst (λ m. slice_get (y ∷ xs) m ≡ Some x) one r.0, omega (arith, lt))
-
--- by its number among the upvalues of a function
-pub upvalue_named : (b : Bindings) (id : ℕ) (vs : List Visible) (xs : List StrId) (k : ℕ) (x : StrId) → length (upvalues_at b id) ≤ 256
-    → Named vs (upvalues_at b id) xs → Rising vs → Contains (upvalues_at b id) k → look x vs ≡ Some k
-    → slice_get xs (upvalue_in b id k) ≡ Some x
-upvalue_named b id vs xs k x few n rising c e =
-    let r = named_at vs (upvalues_at b id) xs k x n rising c e in
-    let lt = r.1 in
-    let near : place_in k (upvalues_at b id) ≡ min (place_in k (upvalues_at b id)) 255 = omega (arith, lt, few) in
-    subst (λ m. slice_get xs m ≡ Some x) near r.0

@@ -3,6 +3,7 @@ use Rattle.std.proofs.Common.{◌≡◌, ℕ, ◌≤◌, pos, min, List, [], ◌
 use Rattle.std.specs.Prelude.{slice_get}
 use Rattle.byte_text.specs.declared.fixed.StrId.{StrId}
 use Rattle.syntax_tree.specs.declared.bindings.Bindings.{Bindings}
+use Rattle.syntax_tree.specs.declared.notes.Visible.{Visible}
 use Rattle.syntax_tree.specs.declared.tree.Expr.{Expr}
 use Rattle.syntax_tree.specs.declared.tree.ExprKind.{out-ExprKind}
 use Rattle.syntax_tree.specs.declared.tree.ExprKind.TheOpen as level
@@ -32,7 +33,7 @@ use Rattle.compiled_runs.proofs.NodeLevels.{code_of, func_code_of}
 use Rattle.compiled_runs.proofs.Nodes.{Runs, In, reads, As}
 use Rattle.compiled_runs.proofs.Following.{parts}
 use Rattle.compiled_runs.proofs.Leaves.{Holds, single_as}
-use Rattle.compiled_runs.proofs.Captures.{Named, names, are_captured, are_named, all_captured}
+use Rattle.compiled_runs.proofs.Captures.{Named, AreCaptured, names, are_captured, are_named, all_captured}
 
 -- ---- the code of a closure, step by step
 
@@ -139,29 +140,24 @@ module _ (p : Setting) (most : ℕ) (b : Bindings) (whole : Emitter) (script : S
   FunctionsCoded =
       (h : Here p most) (r : Runs p most b whole script h) (f : FuncBody) (ps : List Part) (l : List Slot) (d : Emitter)
       → (a : At p most b whole script h r (function f ∷ ps) l d) → d.draft.func ≡ r.final.func
-      → In p most b whole script h r (func_code b f (length l) d) → (xs : List StrId) → Named a.sight.scope (upvalues_at b (out-FuncBody f).id) xs
+      → (to : ℕ) → In p most b whole script h r (func_code b f to d) → (xs : List StrId) → Named a.sight.scope (upvalues_at b (out-FuncBody f).id) xs
       → (proto : ProtoOf) × Code p f (child_number b f d) (env_of p most h l) xs proto
 
-  module _ (coded : FunctionsCoded) (h : Here p most) (r : Runs p most b whole script h) where
-    -- the instruction that makes a closure, and those that capture its variables
-    pub record ClosureStands (f : FuncBody) (l : List Slot) (d d' : Emitter) : Type 0 where
-      pub place : ℕ
-      pub proto : ProtoOf
-      pub captured : List StrId
-      pub behind : ℕ
-      pub makes : Reads p most h (here d) (i.NewClosure (length l) (pos place)) behind
-      pub captures : functions.Captures p most h l captured behind (here d')
-      pub child : Child p most h l f place (child_number b f d) captured proto
+  module _ (h : Here p most) (r : Runs p most b whole script h) where
+    -- the instruction that makes a closure, and those that capture the variables of these names
+    pub record ClosureAt (f : FuncBody) (to : ℕ) (l : List Slot) (xs : List StrId) (d d' : Emitter) : Type 0 where
+      pub makes : Reads p most h (here d) (i.NewClosure to (pos (length d.draft.children))) (here (closed b f to d))
+      pub captures : functions.Captures p most h l xs (here (closed b f to d)) (here d')
+      pub child : slice_get h.proto.children (length d.draft.children) ≡ Some (child_number b f d)
 
-    pub closure_stands : (f : FuncBody) (ps : List Part) (l : List Slot) (d : Emitter) → At p most b whole script h r (function f ∷ ps) l d
-        → d.draft.func ≡ r.final.func → In p most b whole script h r (func_code b f (length l) d)
-        → ClosureStands f l d (func_code b f (length l) d)
-    closure_stands f ps l d a func s =
-        let to = length l in
+    -- where the names in scope are these, and the function captures such locals
+    pub closure_at : (f : FuncBody) (to : ℕ) (vs : List Visible) (c : AreCaptured p most b whole script h r vs (upvalues_at b (out-FuncBody f).id))
+        (l : List Slot) (d : Emitter) → Aligned b r.from.scope r.from.declared l vs d.draft.variables → d.draft.func ≡ r.final.func
+        → In p most b whole script h r (func_code b f to d)
+        → ClosureAt f to l (names p most b whole script h r vs (upvalues_at b (out-FuncBody f).id) c) d (func_code b f to d)
+    closure_at f to vs c l d aligned func s =
         let ks = upvalues_at b (out-FuncBody f).id in
-        let c = are_captured p most b whole script h r f ps l d a in
-        let xs = names p most b whole script h r a.sight.scope ks c in
-        let code = coded h r f ps l d a func s xs (are_named p most b whole script h r a.sight.scope ks c) in
+        let xs = names p most b whole script h r vs ks c in
         let d1 = closed b f to d in
         let d2 = numbered_child b f to d in
         let d3 = capturing b f to d in
@@ -180,10 +176,6 @@ module _ (p : Setting) (most : ℕ) (b : Bindings) (whole : Emitter) (script : S
         let near : min n 32767 ≡ n = omega (arith, lt, r.few_children) in
         let last : here d3 ≡ here (func_code b f to d) = sym (here_prototype b (its_prototype b f d) d3) ∙ ap here (sym (func_is b f to d)) in
         record {
-          place = n;
-          proto = code.0;
-          captured = xs;
-          behind = here d1;
           makes =
               subst (λ m. Reads p most h m (i.NewClosure to (pos n)) (here d1)) (here_draft b d (finished b f d))
               (subst (λ m. Reads p most h (here (with_draft d.draft (finished b f d))) (i.NewClosure to (pos m)) (here d1)) near
@@ -193,9 +185,39 @@ module _ (p : Setting) (most : ℕ) (b : Bindings) (whole : Emitter) (script : S
               (subst (λ m. functions.Captures p most h l xs m (here d3)) (here_child b (length (finished b f d).protos) d1)
               (subst (λ us. In p most b whole script h r (captures b us d2) → functions.Captures p most h l xs (here d2) (here (captures b us d2)))
               (sym listed)
-              (all_captured p most b whole script h r a.sight.scope ks c l d2
-              (subst (Aligned b r.from.scope r.from.declared l a.sight.scope) (sym (child_keeps b f to d)) a.aligned) (child_func b f to d ∙ func)) in3));
-          child = record { child = ap (λ xs. slice_get xs n) r.children ∙ found; code = code.1 };
+              (all_captured p most b whole script h r vs ks c l d2
+              (subst (Aligned b r.from.scope r.from.declared l vs) (sym (child_keeps b f to d)) aligned) (child_func b f to d ∙ func)) in3));
+          child = ap (λ xs. slice_get xs n) r.children ∙ found;
+        }
+
+  module _ (coded : FunctionsCoded) (h : Here p most) (r : Runs p most b whole script h) where
+    -- the instruction that makes a closure, and those that capture its variables
+    pub record ClosureStands (f : FuncBody) (l : List Slot) (d d' : Emitter) : Type 0 where
+      pub place : ℕ
+      pub proto : ProtoOf
+      pub captured : List StrId
+      pub behind : ℕ
+      pub makes : Reads p most h (here d) (i.NewClosure (length l) (pos place)) behind
+      pub captures : functions.Captures p most h l captured behind (here d')
+      pub child : Child p most h l f place (child_number b f d) captured proto
+
+    pub closure_stands : (f : FuncBody) (ps : List Part) (l : List Slot) (d : Emitter) → At p most b whole script h r (function f ∷ ps) l d
+        → d.draft.func ≡ r.final.func → In p most b whole script h r (func_code b f (length l) d)
+        → ClosureStands f l d (func_code b f (length l) d)
+    closure_stands f ps l d a func s =
+        let ks = upvalues_at b (out-FuncBody f).id in
+        let c = are_captured p most b whole script h r f ps l d a in
+        let xs = names p most b whole script h r a.sight.scope ks c in
+        let code = coded h r f ps l d a func (length l) s xs (are_named p most b whole script h r a.sight.scope ks c) in
+        let x = closure_at h r f (length l) a.sight.scope c l d a.aligned func s in
+        record {
+          place = length d.draft.children;
+          proto = code.0;
+          captured = xs;
+          behind = here (closed b f (length l) d);
+          makes = x.makes;
+          captures = x.captures;
+          child = record { child = x.child; code = code.1 };
         }
 
 module _ (p : Setting) (most : ℕ) (calls : (i : ℕ) → i ≤ most → CallsGo p i) (b : Bindings) (whole : Emitter) (script : Script p b whole)

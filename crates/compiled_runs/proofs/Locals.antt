@@ -154,33 +154,40 @@ module _ (p : Setting) (most : ℕ) (b : Bindings) (whole : Emitter) (script : S
     abbrev pub flags : ℕ → List Slot → ℕ → Bool
     flags number l register = is_captured b (number + (register - length l))
 
-    -- behind the declaration
-    behind_local : (s : Stat) (xs : List StrId) (es : List Expr) (ps : List Part) (l : List Slot) (d d1 : Emitter) (c : ℕ)
-        → out-StatKind s.kind ≡ level.Local xs es → (a : At p most b whole script h r (stat s ∷ ps) l d) → keeps.Keeps d d1
-        → At p most b whole script h r ps (vars (flags a.sight.declared l) xs c l) (declare_all (first_at b s.id) (length l) (length xs) d1)
-    behind_local s xs es ps l d d1 c is a k =
+    -- new names of a statement stand for variables behind these slots
+    pub names_declared : (s : Stat) (xs : List StrId) (ps : List Part) (l : List Slot) (d : Emitter) → stat_names (out-StatKind s.kind) ≡ xs
+        → (a : At p most b whole script h r (stat s ∷ ps) l d) → (l2 : List Slot) (d2 : Emitter) (c : ℕ)
+        → Aligned b r.from.scope r.from.declared l2 a.sight.scope d2.draft.variables → AllBelow a.sight.declared d2.draft.variables
+        → Declared b r.from.scope r.from.declared (vars (flags a.sight.declared l2) xs c l2) (a.sight.scope ++ visible a.sight.declared xs)
+        (declare_all (first_at b s.id) (length l2) (length xs) d2).draft.variables (a.sight.declared + length xs)
+    names_declared s xs ps l d names a l2 d2 c aligned below =
         let n = a.sight.declared in
-        let aligned : Aligned b r.from.scope r.from.declared l a.sight.scope d1.draft.variables =
-        subst (Aligned b r.from.scope r.from.declared l a.sight.scope) (sym k) a.aligned in
-        let below : AllBelow n d1.draft.variables = subst (AllBelow n) (sym k) a.below in
-        let count : n + length xs ≤ (behind (stat s) a.sight).declared =
-        subst (λ (y : StatLevel). (in_stat y a.sight).sight.declared ≤ (behind (stat s) a.sight).declared) is (own_declared (stat s) a.sight) in
         let own : r.from.declared ≤ n = (deep r.from r.func a.sight (stat s ∷ ps) a.seen).more.rises in
-        let made : Declared b r.from.scope r.from.declared (vars (flags n l) xs c l) (a.sight.scope ++ visible n xs)
-        (declare_all n (length l) (length xs) d1).draft.variables (n + length xs) =
-        all_declared b r.from.scope r.from.declared xs (flags n l) c n (length l) l a.sight.scope d1 refl
-        (few_declared (stat s) ps l d xs (ap (λ (y : StatLevel). stat_names y) is) a) own below
-        (λ i lt. ap (λ k. is_captured b (n + k)) (omega arith)) aligned in
         let first : n ≡ first_at b s.id = sym (first_is (stat s) ps l d s.id refl a) in
-        subst (λ m. At p most b whole script h r ps (vars (flags n l) xs c l) (declare_all m (length l) (length xs) d1)) first (record {
+        subst (λ m. Declared b r.from.scope r.from.declared (vars (flags n l2) xs c l2) (a.sight.scope ++ visible n xs)
+        (declare_all m (length l2) (length xs) d2).draft.variables (n + length xs)) first
+        (all_declared b r.from.scope r.from.declared xs (flags n l2) c n (length l2) l2 a.sight.scope d2 refl
+        (few_declared (stat s) ps l d xs names a) own below (λ i lt. ap (λ k. is_captured b (n + k)) (omega arith)) aligned)
+
+    -- behind a statement that makes them visible
+    pub behind_names : (s : Stat) (x : StatLevel) (xs : List StrId) (ps : List Part) (l : List Slot) (d : Emitter) → out-StatKind s.kind ≡ x
+        → ((n : ℕ) → stat_shows x n ≡ visible n xs) → ((t : Sight) → t.declared + length xs ≤ (in_stat x t).sight.declared)
+        → (a : At p most b whole script h r (stat s ∷ ps) l d) → (l2 : List Slot) (d2 : Emitter)
+        → Declared b r.from.scope r.from.declared l2 (a.sight.scope ++ visible a.sight.declared xs) d2.draft.variables (a.sight.declared + length xs)
+        → At p most b whole script h r ps l2 d2
+    behind_names s x xs ps l d is shown many a l2 d2 made =
+        let n = a.sight.declared in
+        let count : (in_stat x a.sight).sight.declared ≤ (behind (stat s) a.sight).declared =
+        subst (λ (y : StatLevel). (in_stat y a.sight).sight.declared ≤ (behind (stat s) a.sight).declared) is (own_declared (stat s) a.sight) in
+        let enough = many a.sight in
+        record {
           sight = behind (stat s) a.sight;
           seen = next a.sight (stat s) ps a.seen;
-          aligned = subst (λ vs. Aligned b r.from.scope r.from.declared (vars (flags n l) xs c l) (a.sight.scope ++ vs)
-              (declare_all n (length l) (length xs) d1).draft.variables)
-              (sym (ap (λ (y : StatLevel). stat_shows y n) is)) made.aligned;
+          aligned = subst (λ vs. Aligned b r.from.scope r.from.declared l2 (a.sight.scope ++ vs) d2.draft.variables)
+              (sym (ap (λ (y : StatLevel). stat_shows y n) is ∙ shown n)) made.aligned;
           first = a.first;
-          below = below_later (n + length xs) (behind (stat s) a.sight).declared _ count made.below;
-        })
+          below = below_later (n + length xs) (behind (stat s) a.sight).declared d2.draft.variables (omega (arith, count, enough)) made.below;
+        }
 
     local_runs : (s : Stat) (xs : List StrId) (es : List Expr) (ps : List Part) (l : List Slot) (d : Emitter) (j : Jumps)
         → out-StatKind s.kind ≡ level.Local xs es → AllHold p most b whole script es
@@ -192,6 +199,7 @@ module _ (p : Setting) (most : ℕ) (b : Bindings) (whole : Emitter) (script : S
         let d2 = declare_all (first_at b s.id) (length l) (length xs) d1 in
         let first : In p most b whole script h r d1 =
         before r.final whole d1 d2 (grows.all_declared (first_at b s.id) (length l) (length xs) d1 d1 (grows.none d1)) st.inside in
+        let k : keeps.Keeps d d1 = keeps.exact_good codes (keeps.exprs_are_good b es) (length l) (length xs) d d (keeps.none d) in
         let needed : (need_stat s).need ≡ max (length xs) (list_from 0 (map need_expr es)) =
         ap (λ (n : StatNeed). n.need) (stat_need_of s (level.Local xs es) is) in
         let room = st.room in
@@ -209,8 +217,11 @@ module _ (p : Setting) (most : ℕ) (b : Bindings) (whole : Emitter) (script : S
               (sym (here_declared (length xs) (first_at b s.id) (length l) d1))
               (local_same p most s xs es captured h l j (here d) (here d1) is
               (exact_alone p most b whole script h r es holds (length xs) l d begun));
-          at = λ c. behind_local s xs es ps l d d1 c is st.at
-              (keeps.exact_good codes (keeps.exprs_are_good b es) (length l) (length xs) d d (keeps.none d));
+          at = λ c.
+              behind_names s (level.Local xs es) xs ps l d is (λ n. refl) (λ t. omega arith) st.at (vars captured xs c l) d2
+              (names_declared s xs ps l d (ap (λ (y : StatLevel). stat_names y) is) st.at l d1 c
+              (subst (Aligned b r.from.scope r.from.declared l st.at.sight.scope) (sym k) st.at.aligned)
+              (subst (AllBelow st.at.sight.declared) (sym k) st.at.below));
           above = λ c. above_vars captured xs c l;
           count = λ c. length_vars captured xs c l;
         }
