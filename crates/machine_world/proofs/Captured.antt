@@ -43,7 +43,7 @@ use Rattle.machine_world.proofs.Beside.{Beside, beside_self, beside_on, beside_w
 
 -- ---- a new cell
 
-has_slot : (a : ArenaView) (w : Owner) (v : Value) → HasCell (new_cell a w v) (next_cell a w) → slot w < length a.owners
+pub has_slot : (a : ArenaView) (w : Owner) (v : Value) → HasCell (new_cell a w v) (next_cell a w) → slot w < length a.owners
 unfolding HasCell new_cell next_cell
 has_slot a w v h =
     let o : ObjectsView = objects_of a w in
@@ -57,19 +57,19 @@ unfolding new_cell
 own_made a w v room =
     ap (λ (o : ObjectsView). o.cells) (objects_now a w (record (objects_of a w) { cells = (objects_of a w).cells ++ v ∷ [] }) room)
 
-cells_made : (texts : List m.Bytes) (w : Owner) (a : ArenaView) (v : Value) → slot w < length a.owners →
+pub cells_made : (texts : List m.Bytes) (w : Owner) (a : ArenaView) (v : Value) → slot w < length a.owners →
     kept_cells texts w (new_cell a w v) ≡ kept_cells texts w a ++ meant texts v ∷ []
 cells_made texts w a v room =
     ap (map (meant texts)) (own_made a w v room) ∙ map-append (meant texts) (objects_of a w).cells (v ∷ [])
 
-count_made : (w : Owner) (a : ArenaView) (v : Value) → slot w < length a.owners → cell_count w (new_cell a w v) ≡ cell_count w a + 1
+pub count_made : (w : Owner) (a : ArenaView) (v : Value) → slot w < length a.owners → cell_count w (new_cell a w v) ≡ cell_count w a + 1
 count_made w a v room = ap length (own_made a w v room) ∙ length-append (objects_of a w).cells (v ∷ [])
 
-new_owner : (a : ArenaView) (w : Owner) → wide (next_cell a w).owner ≡ w
+pub new_owner : (a : ArenaView) (w : Owner) → wide (next_cell a w).owner ≡ w
 unfolding next_cell
 new_owner a w = wide_narrow w
 
-new_place : (a : ArenaView) (w : Owner) → (next_cell a w).place ≡ cell_count w a
+pub new_place : (a : ArenaView) (w : Owner) → (next_cell a w).place ≡ cell_count w a
 unfolding next_cell
 new_place a w = refl
 
@@ -165,7 +165,7 @@ part_capture w code s r x replies t is_t has h layout is =
 
 -- ---- one more is open
 
-of_more : (w : Owner) (n k : ℕ) (os : List OpenCell) → n ≤ k → AreOf w n os → AreOf w k os
+pub of_more : (w : Owner) (n k : ℕ) (os : List OpenCell) → n ≤ k → AreOf w n os → AreOf w k os
 of_more w n k [] le h = tt
 of_more w n k (o ∷ os) le h = (h.0, omega (arith, le, h.1), of_more w n k os le h.2)
 

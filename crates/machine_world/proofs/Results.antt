@@ -1,21 +1,24 @@
 -- What is carried from one result to the next.
-use Rattle.std.proofs.Common.{◌≡◌, ℕ, zero, suc, ◌<◌, ◌≤◌, List, [], ◌∷◌, length, map, get_or, slice_get, Some, Result, Ok, Err, IfOk, OnOk, refl, sym, ◌∙◌, ap, subst, arith, inl, inr}
+use Rattle.std.proofs.Common.{◌≡◌, ℕ, zero, suc, ◌<◌, ◌≤◌, List, [], ◌∷◌, length, map, get_or, slice_get, Option, Some, None, Result, Ok, Err, IfOk, OnOk, refl, sym, ◌∙◌, ap, subst, arith, inl, inr}
 use Rattle.std.specs.List.{AllByRecursion}
+use Rattle.std.specs.Option.{option_map_or}
 use Rattle.value_model.specs.Owners.{wide}
 use Rattle.value_model.specs.Parts.{meant}
 use Rattle.value_model.specs.declared.event.Reply.{Reply}
 use Rattle.value_model.specs.declared.ids.CellId.{CellId}
 use Rattle.value_model.specs.declared.ids.ClosureId.{ClosureId}
+use Rattle.value_model.specs.declared.ids.Owner.{Owner}
 use Rattle.value_model.specs.declared.ids.Owner.TheVariants.{Frozen}
 use Rattle.value_model.specs.declared.value.Value.{Value}
 use Rattle.value_model.specs.declared.value.Value.TheVariants as value
 use Rattle.value_arena.specs.declared.closure.Closure.{Closure}
-use Rattle.value_arena.specs.Arenas.{ArenaView, HasCell, HasClosure, objects_of}
+use Rattle.value_arena.specs.Arenas.{ArenaView, HasCell, HasClosure, objects_of, next_cell, new_cell}
 use Rattle.value_arena.specs.Owning.{MaySee}
 use Rattle.luau_tables.specs.Worlds.{MayUseIn}
 use Rattle.luau_tables.specs.declared.globals.LibWorld.{LibWorld}
+use Rattle.call_frames.specs.declared.frame.Frame.{Frame}
 use Rattle.call_frames.specs.Stacks.{StackView, Layout}
-use Rattle.call_frames.specs.Cells.{AreIn, place_of, end_of, called}
+use Rattle.call_frames.specs.Cells.{AreIn, place_of, end_of, called, cell_on, opened, register_at}
 use Rattle.call_frames.specs.Cells as opens
 use Rattle.machine_meaning.specs.States.{Focus}
 use Rattle.machine_code.specs.declared.code.Code.{Code}
@@ -69,6 +72,21 @@ pub captures : {E : Type 0} (w : LibWorld) (code : Code) (s s' : StackView) (a' 
     HasRegister s r → Layout s → IsMachine w s → IfOk q (λ c. Captures w code s s' a' r c)
 captures w code s s' a' r place (Ok c) e has at h layout is = one_captures w code s s' a' r place c e has at h layout is
 captures w code s s' a' r place (Err x) e has at h layout is = tt
+
+-- the frames stay
+pub captured_frames : (s : StackView) (a : ArenaView) (u : Owner) (r : ℕ) → (opens.captured s a u r).1.frames ≡ s.frames
+unfolding opens.captured
+captured_frames s a u r = by (cell_on r s.cells)
+  where
+    new : Three
+    new = (next_cell a u, record s { cells = opened r (next_cell a u) s.cells }, new_cell a u (register_at s r))
+
+    frames_of : Three → List Frame
+    frames_of t = t.1.frames
+
+    by : (q : Option CellId) → frames_of (option_map_or (λ c. (c, s, a)) q new) ≡ s.frames
+    by None = refl
+    by (Some c) = refl
 
 -- ---- calls
 

@@ -144,8 +144,8 @@ fn is(a: &Value, b: &Value) -> bool
     *a == *b
 }
 
-// Whether an answer is the one for which a jump is taken.
-fn agrees(wanted: bool, answer: bool) -> bool
+/// Whether an answer is the one for which a jump is taken.
+pub fn agrees(wanted: bool, answer: bool) -> bool
     ensures { result ≡ agrees wanted answer }
 {
     wanted == answer
@@ -169,8 +169,8 @@ fn ahead(place: usize, by: i32) -> usize
     }
 }
 
-// The place so many words before the word behind a place.
-fn back(place: usize, by: i16) -> usize
+/// The place so many words before the word behind a place.
+pub fn back(place: usize, by: i16) -> usize
     requires { Back place by }
     ensures { pos result ≡ pos (place + 1) +ℤ by }
 {

@@ -6,5 +6,6 @@ mod loads;
 mod machine;
 mod rows;
 
+pub use jumps::{agrees, back};
 pub use machine::Machine;
 pub use machine_code::{Code, Function, Line};

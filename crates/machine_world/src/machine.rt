@@ -6,6 +6,7 @@ ghost use Rattle.value_model.specs.declared.value.Value.TheVariants.{Closure};
 ghost use Rattle.value_model.specs.Parts.{meant};
 ghost use Rattle.value_model.specs.Values as m;
 ghost use Rattle.value_model.specs.declared.event.Reply.{Reply};
+ghost use Rattle.value_arena.specs.Growing.{Grows};
 ghost use Rattle.luau_tables.specs.Worlds.{MayUseIn};
 ghost use Rattle.machine_meaning.specs.States as machine;
 ghost use Rattle.machine_world.specs.Functions.{purpose_of};
@@ -50,8 +51,8 @@ impl Machine {
         self.stack.set_local(register, v);
     }
 
-    // The cell of an upvalue of the function that runs.
-    fn upvalue_cell(&self, world: &LibWorld, upvalue: u8) -> CellId
+    /// The cell of an upvalue of the function that runs.
+    pub fn upvalue_cell(&self, world: &LibWorld, upvalue: u8) -> CellId
         requires sound { IsMachine world.now self.now.stack }
         requires has { HasUpvalue world.now.arena self.now.stack upvalue }
         ensures { Up world.now self.now.code self.now.stack upvalue result }
@@ -100,6 +101,9 @@ impl Machine {
         ensures captured { OnOk result (parts.Becomes (parts.changed (λ i. (parts.captured register i).inside)) world.old self.old.code self.old.stack world.new self.new.stack) }
         ensures cell { IfOk result (λ c. (x : machine.Focus) (replies : List Reply) → c.place ≡ parts.read_of 0 (parts.captured_cell register) (parts.part world.old self.old.code self.old.stack x replies)) }
         ensures own { IfOk result (λ c. IsCell world.new.owner world.new.arena c) }
+        ensures world { world.new ≡ record world.old { arena = world.new.arena } }
+        ensures grows { Grows world.old.arena world.new.arena }
+        ensures frames { OnOk result (self.new.stack.frames ≡ self.old.stack.frames) }
         ensures sound { OnOk result (IsMachine world.new self.new.stack) }
         ensures code { self.new.code ≡ self.old.code }
     {

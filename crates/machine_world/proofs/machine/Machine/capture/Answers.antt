@@ -1,11 +1,13 @@
-use Rattle.std.proofs.Common.{◌≡◌, ℕ, List}
+use Rattle.std.proofs.Common.{◌≡◌, ℕ, List, ◌∙◌, ap}
 use Rattle.value_model.specs.declared.event.Reply.{Reply}
 use Rattle.value_model.specs.declared.ids.CellId.{CellId}
 use Rattle.machine_meaning.specs.States.{Focus}
 use Rattle.machine_world.specs.Parts as parts
 use Rattle.machine_world.specs.Sound.{IsCell, IsMachine}
 use Rattle.machine_world.proofs.Upvalues.{are_in}
-use Rattle.machine_world.proofs.Results.{if_ok, ok_then, Captures, captures}
+use Rattle.call_frames.specs.Cells as opens
+use Rattle.machine_world.proofs.Captured.{Three}
+use Rattle.machine_world.proofs.Results.{if_ok, ok_then, Captures, captures, captured_frames}
 use Rattle.machine_world.proofs.machine.Machine.capture.Goals as goal
 
 pub capture-requires-clause-there : goal.capture-requires-clause-there
@@ -50,3 +52,11 @@ returns-clause-sound c =
     let a' = c.capture.new.arena in
     ok_then (λ k. Captures w m.code m.stack s' a' r k) (IsMachine (record w { arena = a' }) s') c.capture.result (λ k h. h.sound)
     (captures w m.code m.stack s' a' r c.place-place.result c.capture.result c.capture.ensures.ok c.capture.ensures.there c.place-place.ensures.value c.requires.has c.place-place.ensures.layout c.requires.sound)
+
+pub returns-clause-frames : goal.returns-clause-frames
+returns-clause-frames c =
+    let w = c.args.world.now in
+    let s = c.args.self.now.stack in
+    let s' = c.capture.new.self in
+    ok_then (λ (k : CellId). (k, s', c.capture.new.arena) ≡ opens.captured s w.arena w.owner c.place-place.result) (s'.frames ≡ s.frames) c.capture.result
+    (λ k e. ap (λ (p : Three). p.1.frames) e ∙ captured_frames s w.arena w.owner c.place-place.result) c.capture.ensures.ok

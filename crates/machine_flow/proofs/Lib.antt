@@ -1,0 +1,5 @@
+pub mod Steps
+pub mod Gathered
+pub mod Rows
+pub mod Writing
+pub mod Generated
