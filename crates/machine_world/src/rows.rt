@@ -124,8 +124,8 @@ impl Machine {
         self.give(world, to, Value::Bool(!holds), next);
     }
 
-    // The register behind one that the function that runs has.
-    fn behind(&self, register: u8) -> u8
+    /// The register behind one that the function that runs has.
+    pub fn behind(&self, register: u8) -> u8
         requires { HasRegister self.now.stack register }
         ensures { result ≡ register + 1 }
     {
