@@ -33,7 +33,7 @@ abbrev pub framed : StackView → Frame → (place : ℕ) → ReturnKind → (to
 framed s f place kind top =
     record s { frames = set s.frames (length s.frames - 1) (record f { place = place; kind = kind }); top = top }
 
-part_framed : (w : LibWorld) (code : Code) (s : StackView) (f : Frame) (c : ClosureId) (place top : ℕ) (kind : ReturnKind) (x : Focus) (replies : List Reply) → innermost s ≡ Some f → f.closure ≡ Some c → part w code (framed s f place kind top) x replies ≡ state_with w code s.frames x replies (record (running w.names (objects_of w.arena w.owner).closures s c f) { place = place; purpose = purpose_of w.names kind; top = top - f.base; registers = window w.names s.registers s.cells (max f.registers (top - f.base)) f.base } ∷ waiting w.names (objects_of w.arena w.owner).closures s.registers s.cells (reverse (outer s))) (cells_of w.names w.owner s w.arena)
+pub part_framed : (w : LibWorld) (code : Code) (s : StackView) (f : Frame) (c : ClosureId) (place top : ℕ) (kind : ReturnKind) (x : Focus) (replies : List Reply) → innermost s ≡ Some f → f.closure ≡ Some c → part w code (framed s f place kind top) x replies ≡ state_with w code s.frames x replies (record (running w.names (objects_of w.arena w.owner).closures s c f) { place = place; purpose = purpose_of w.names kind; top = top - f.base; registers = window w.names s.registers s.cells (max f.registers (top - f.base)) f.base } ∷ waiting w.names (objects_of w.arena w.owner).closures s.registers s.cells (reverse (outer s))) (cells_of w.names w.owner s w.arena)
 unfolding part cells_of
 part_framed w code s f c place top kind x replies e of =
     let g : Frame = record f { place = place; kind = kind } in
@@ -118,7 +118,7 @@ all_last P [] i x e h = absurd (cc)
 all_last P (y ∷ xs) zero x e h = let same : y ≡ x = cc in subst P same h.0
 all_last P (y ∷ xs) (suc i) x e h = all_last P xs i x e h.1
 
-keeps_framed : (w : LibWorld) (s : StackView) (f : Frame) (place top : ℕ) (kind : ReturnKind) → innermost s ≡ Some f → IsMachine w s →
+pub keeps_framed : (w : LibWorld) (s : StackView) (f : Frame) (place top : ℕ) (kind : ReturnKind) → innermost s ≡ Some f → IsMachine w s →
     IsMachine w (framed s f place kind top)
 keeps_framed w s f place top kind e is =
     let g : Frame = record f { place = place; kind = kind } in
