@@ -1,0 +1,5 @@
+pub mod Instructions
+pub mod States
+pub mod Uses
+pub mod Bodies
+pub mod Whole

@@ -1,0 +1,6 @@
+//! Laws of the operands of emitted code.
+#![tactic(auto)]
+
+mod laws;
+
+pub use laws::operands_fit;
