@@ -35,3 +35,4 @@ pub mod Chunks
 pub mod Bodies
 pub mod Trees
 pub mod NumericRuns
+pub mod NumericLoops
