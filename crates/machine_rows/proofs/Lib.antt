@@ -5,3 +5,7 @@ pub mod Operating
 pub mod Environments
 pub mod Stored
 pub mod Onward
+pub mod NamesFollowed
+pub mod Safety
+pub mod Named
+pub mod Joined

@@ -3,6 +3,7 @@
 
 mod arithmetic;
 mod comparing;
+mod importing;
 mod indexing;
 mod measuring;
 mod next;
@@ -11,6 +12,7 @@ mod storing;
 
 pub use arithmetic::{constant_divided, constant_less, minus, operate, operate_with_constant};
 pub use comparing::jump_on_comparison;
+pub use importing::{follow, get_import};
 pub use indexing::{environment, get_global, get_member, get_numbered, get_table, name_call};
 pub use measuring::length;
 pub use next::Next;
