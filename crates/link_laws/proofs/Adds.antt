@@ -34,7 +34,8 @@ nothing F N d = record {
   protos = λ h. h;
 }
 
-pub both : {F : ℕ → Bool} {N : Type 0} {c1 c2 : ℕ → ℕ} {w1 w2 : ℕ} {d1 d2 d3 : Emitter} → Adds F N c1 w1 d1 d2 → Adds F N c2 w2 d2 d3 → Adds F N (λ l. c1 l + c2 l) (w1 + w2) d1 d3
+pub both : {F : ℕ → Bool} {N : Type 0} {c1 c2 : ℕ → ℕ} {w1 w2 : ℕ} {d1 d2 d3 : Emitter} → Adds F N c1 w1 d1 d2 → Adds F N c2 w2 d2 d3
+    → Adds F N (λ l. c1 l + c2 l) (w1 + w2) d1 d3
 both p q = record {
   labels = λ l. let a = p.labels l in let b = q.labels l in omega (arith, a, b);
   words = let a = p.words in let b = q.words in omega (arith, a, b);
@@ -45,7 +46,8 @@ both p q = record {
 }
 
 -- at most as much
-pub fit : {F : ℕ → Bool} {N : Type 0} {c1 c2 : ℕ → ℕ} {w1 w2 : ℕ} {d1 d2 : Emitter} → Adds F N c1 w1 d1 d2 → ((l : ℕ) → c1 l ≤ c2 l) → w1 ≤ w2 → Adds F N c2 w2 d1 d2
+pub fit : {F : ℕ → Bool} {N : Type 0} {c1 c2 : ℕ → ℕ} {w1 w2 : ℕ} {d1 d2 : Emitter} → Adds F N c1 w1 d1 d2 → ((l : ℕ) → c1 l ≤ c2 l) → w1 ≤ w2
+    → Adds F N c2 w2 d1 d2
 fit p few short = record {
   labels = λ l. let a = p.labels l in let b = few l in omega (arith, a, b);
   words = let a = p.words in omega (arith, a, short);
@@ -82,7 +84,8 @@ insn F N i d = record {
   protos = λ h. h;
 }
 
-pub branch : (F : ℕ → Bool) (N : Type 0) (i : Insn) (k : ℕ) (d : Emitter) → IsTrue (is_jump i) → (N → IsTrue (F k)) → Adds F N none (length (encoded i)) d (puts.branch i k d)
+pub branch : (F : ℕ → Bool) (N : Type 0) (i : Insn) (k : ℕ) (d : Emitter) → IsTrue (is_jump i) → (N → IsTrue (F k))
+    → Adds F N none (length (encoded i)) d (puts.branch i k d)
 unfolding put_item
 branch F N i k d is to = record {
   labels = λ l. let a = times_branch l d.draft.items i k in omega (arith, a);
@@ -105,7 +108,8 @@ place_at F N k d = record {
 }
 
 -- a label of a node
-pub place : (F : ℕ → Bool) (N : Type 0) (id spot : ℕ) (d : Emitter) → id < 2 ^ 62 → spot ≤ 3 → Adds F N (hits (id * 4 + spot)) 0 d (puts.place (label id spot) d)
+pub place : (F : ℕ → Bool) (N : Type 0) (id spot : ℕ) (d : Emitter) → id < 2 ^ 62 → spot ≤ 3
+    → Adds F N (hits (id * 4 + spot)) 0 d (puts.place (label id spot) d)
 place F N id spot d lt le =
     subst (λ k. Adds F N (hits k) 0 d (puts.place (label id spot) d)) (label_is id spot lt le) (place_at F N (label id spot) d)
 
@@ -168,5 +172,6 @@ forgotten F N left d = record {
 pub one : (F : ℕ → Bool) (N : Type 0) (i : Insn) (d : Emitter) → length (encoded i) ≡ 1 → Adds F N none 1 d (puts.insn i d)
 one F N i d e = subst (λ w. Adds F N none w d (puts.insn i d)) e (insn F N i d)
 
-pub jump : (F : ℕ → Bool) (N : Type 0) (i : Insn) (k : ℕ) (d : Emitter) → length (encoded i) ≡ 1 → IsTrue (is_jump i) → (N → IsTrue (F k)) → Adds F N none 1 d (puts.branch i k d)
+pub jump : (F : ℕ → Bool) (N : Type 0) (i : Insn) (k : ℕ) (d : Emitter) → length (encoded i) ≡ 1 → IsTrue (is_jump i) → (N → IsTrue (F k))
+    → Adds F N none 1 d (puts.branch i k d)
 jump F N i k d e is to = subst (λ w. Adds F N none w d (puts.branch i k d)) e (branch F N i k d is to)

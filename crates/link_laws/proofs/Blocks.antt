@@ -54,18 +54,21 @@ step_le n (Some e) all m h = let o = h.order in omega (arith, o)
 
 module _ (F : ℕ → Bool) (N : Type 0) where
   -- statements up to k, and those from there on
-  pub following : (n k m : ℕ) → n ≤ k → k ≤ m → (w1 w2 w : ℕ) → w1 + w2 ≤ w → (d1 d2 d3 : Emitter) → Adds F N (span n k) w1 d1 d2 → Adds F N (span k m) w2 d2 d3 → Adds F N (span n m) w d1 d3
+  pub following : (n k m : ℕ) → n ≤ k → k ≤ m → (w1 w2 w : ℕ) → w1 + w2 ≤ w → (d1 d2 d3 : Emitter) → Adds F N (span n k) w1 d1 d2
+      → Adds F N (span k m) w2 d2 d3 → Adds F N (span n m) w d1 d3
   following n k m le le' w1 w2 w room d1 d2 d3 p q =
       fit (both p q) (λ l. let b = span_join n k m l le le' in omega (arith, b)) room
 
-  pub stats_good : (n : ℕ) (ss : List StatCode) (all m : ℕ) (looped : Bool) → Stats n ss all m looped → (free : ℕ) (l : Loop) (d : Emitter) → (N → Exits F looped l) → Adds F N (span n m) all d (code.stats_run ss free l d)
+  pub stats_good : (n : ℕ) (ss : List StatCode) (all m : ℕ) (looped : Bool) → Stats n ss all m looped → (free : ℕ) (l : Loop) (d : Emitter)
+      → (N → Exits F looped l) → Adds F N (span n m) all d (code.stats_run ss free l d)
   stats_good n [] all m looped h free l d out = fit (nothing F N d) (λ q. omega arith) (omega arith)
   stats_good n (s ∷ ss) all m looped h free l d out =
       let o = h.first.order in
       following n h.k m (omega (arith, o)) (stats_le h.k ss h.behind m looped h.rest) h.here h.behind all h.total d _ _
       (given (h.first.run F free l d) out) (stats_good h.k ss h.behind m looped h.rest (free + s.declares) l _ out)
 
-  pub body_good : (n : ℕ) (ss : List StatCode) (all m : ℕ) (looped : Bool) → Stats n ss all m looped → (free : ℕ) (l : Loop) (d : Emitter) → (N → Exits F looped l) → Adds F N (span n m) all d (code.body_run ss free l d)
+  pub body_good : (n : ℕ) (ss : List StatCode) (all m : ℕ) (looped : Bool) → Stats n ss all m looped → (free : ℕ) (l : Loop) (d : Emitter)
+      → (N → Exits F looped l) → Adds F N (span n m) all d (code.body_run ss free l d)
   body_good n [] all m looped h free l d out = fit (nothing F N d) (λ q. omega arith) (omega arith)
   body_good n (s ∷ ss) all m looped h free l d out =
       let o = h.first.order in
@@ -73,17 +76,22 @@ module _ (F : ℕ → Bool) (N : Type 0) where
       (given (h.first.run F free (code.in_turn (mark_at free d) l) d) out) (body_good h.k ss h.behind m looped h.rest (free + s.declares) l _ out)
 
   module _ (b : Bindings) where
-    pub block_good : (n : ℕ) (ss : List StatCode) (all m : ℕ) (looped : Bool) → Stats n ss all m looped → (free : ℕ) (l : Loop) (d : Emitter) → (N → Exits F looped l) → Adds F N (span n m) (all + 1) d (code.block_run b ss free l d)
+    pub block_good : (n : ℕ) (ss : List StatCode) (all m : ℕ) (looped : Bool) → Stats n ss all m looped → (free : ℕ) (l : Loop) (d : Emitter)
+        → (N → Exits F looped l) → Adds F N (span n m) (all + 1) d (code.block_run b ss free l d)
     block_good n ss all m looped h free l d out =
-        fit (both (stats_good n ss all m looped h free l d out) (ended_good F N b (mark_at free d) (code.stats_run ss free l d))) (λ q. omega arith) (omega arith)
+        fit (both (stats_good n ss all m looped h free l d out) (ended_good F N b (mark_at free d) (code.stats_run ss free l d))) (λ q. omega arith)
+        (omega arith)
 
   -- ---- the bounds of a numeric loop
 
-  pub copied_good : (n m bulk : ℕ) (e : ExprCode) (g : Good n m bulk e) (to at : ℕ) (d : Emitter) → Adds F N (zone n m) (g.words + 1) d (code.copied e to at d)
+  pub copied_good : (n m bulk : ℕ) (e : ExprCode) (g : Good n m bulk e) (to at : ℕ) (d : Emitter)
+      → Adds F N (zone n m) (g.words + 1) d (code.copied e to at d)
   copied_good n m bulk e g to at d =
-      fit (both (operand_good F N n m bulk e g at d) (one F N (i.Move to (nodes.operand_at e at d)) (nodes.operand_run e at d) refl)) (λ l. omega arith) (omega arith)
+      fit (both (operand_good F N n m bulk e g at d) (one F N (i.Move to (nodes.operand_at e at d)) (nodes.operand_run e at d) refl))
+      (λ l. omega arith) (omega arith)
 
-  pub step_good : (n : ℕ) (o : Option ExprCode) (all m : ℕ) → GoodStep n o all m → (free : ℕ) (d : Emitter) → Adds F N (span n m) (all + 1) d (code.step_run o free d)
+  pub step_good : (n : ℕ) (o : Option ExprCode) (all m : ℕ) → GoodStep n o all m → (free : ℕ) (d : Emitter)
+      → Adds F N (span n m) (all + 1) d (code.step_run o free d)
   step_good n None all m h free d = fit (one F N (i.LoadN (free + 1) (pos 1)) d refl) (λ l. omega arith) (omega arith)
   step_good n (Some e) all m h free d =
       let r = h.room in
@@ -138,7 +146,8 @@ module _ (F : ℕ → Bool) (N : Type 0) where
     update_own_good op.Mod register free d = own_by op.Mod register free d
     update_own_good op.Pow register free d = own_by op.Pow register free d
 
-    pub update_local_good : (captured : Bool) (z : BinOp) (register free : ℕ) (d : Emitter) → Adds F N (zone n m) (g.words + 2) d (code.update_local captured z y register free d)
+    pub update_local_good : (captured : Bool) (z : BinOp) (register free : ℕ) (d : Emitter)
+        → Adds F N (zone n m) (g.words + 2) d (code.update_local captured z y register free d)
     update_local_good true z register free d = fit (both (moved free register d) (operated_good z register free _)) (λ l. omega arith) (omega arith)
     update_local_good false z register free d = update_own_good z register free d
 
@@ -147,14 +156,17 @@ module _ (F : ℕ → Bool) (N : Type 0) where
     update_good b (Named (bound.Local k) name) z free d =
         fit (update_local_good (names.is_captured b k) z (names.register_of k d) free d) (λ l. omega arith) (omega arith)
     update_good b (Named (bound.Up k) name) z free d =
-        fit (both (both (name_good F N b (bound.Up k) name free d) (operated_good z free free _)) (assign_to_good F N b (Named (bound.Up k) name) free _)) (λ l. omega arith) (omega arith)
+        fit (both (both (name_good F N b (bound.Up k) name free d) (operated_good z free free _))
+        (assign_to_good F N b (Named (bound.Up k) name) free _)) (λ l. omega arith) (omega arith)
     update_good b (Named bound.Global name) z free d =
-        fit (both (both (name_good F N b bound.Global name free d) (operated_good z free free _)) (assign_to_good F N b (Named bound.Global name) free _)) (λ l. omega arith) (omega arith)
+        fit (both (both (name_good F N b bound.Global name free d) (operated_good z free free _))
+        (assign_to_good F N b (Named bound.Global name) free _)) (λ l. omega arith) (omega arith)
 
 -- ---- loops
 
 module _ (b : Bindings) (id m : ℕ) (low : m ≤ 2 ^ 62) where
-  pub while_good : (k tested all : ℕ) (cond : ExprCode) (g : Good (id + 1) k tested cond) (body : List StatCode) → Stats k body all m true → (F : ℕ → Bool) (free : ℕ) (d : Emitter) → Adds F (Unit {0}) (span id m) (8 + (tested + all)) d (code.while_run b cond body id free d)
+  pub while_good : (k tested all : ℕ) (cond : ExprCode) (g : Good (id + 1) k tested cond) (body : List StatCode) → Stats k body all m true
+      → (F : ℕ → Bool) (free : ℕ) (d : Emitter) → Adds F (Unit {0}) (span id m) (8 + (tested + all)) d (code.while_run b cond body id free d)
   while_good k tested all cond g body h F free d =
       let N = IsTrue (F (label id 0)) × IsTrue (F (label id 1)) × IsTrue (F (label id 2)) in
       let mark = mark_at free d in
@@ -186,7 +198,8 @@ module _ (b : Bindings) (id m : ℕ) (low : m ≤ 2 ^ 62) where
       let at1 = p1.back (p2.back (p3.back at4)) in
       (placed_last F (label id 0) d at1, placed_last F (label id 1) d6 c, placed_last F (label id 2) d3 at4))
 
-  pub repeat_good : (k tested all : ℕ) (body : List StatCode) → Stats (id + 1) body all k true → (cond : ExprCode) (g : Good k m tested cond) → (F : ℕ → Bool) (free : ℕ) (d : Emitter) → Adds F (Unit {0}) (span id m) (8 + (all + tested)) d (code.repeat_run b body cond id free d)
+  pub repeat_good : (k tested all : ℕ) (body : List StatCode) → Stats (id + 1) body all k true → (cond : ExprCode) (g : Good k m tested cond)
+      → (F : ℕ → Bool) (free : ℕ) (d : Emitter) → Adds F (Unit {0}) (span id m) (8 + (all + tested)) d (code.repeat_run b body cond id free d)
   repeat_good k tested all body h cond g F free d =
       let N = IsTrue (F (label id 0)) × IsTrue (F (label id 1)) × IsTrue (F (label id 2)) × IsTrue (F (label id 3)) in
       let mark = mark_at free d in
@@ -222,7 +235,9 @@ module _ (b : Bindings) (id m : ℕ) (low : m ≤ 2 ^ 62) where
       let at1 = p1.back (p2.back at3) in
       (placed_last F (label id 0) d at1, placed_last F (label id 1) d8 c, placed_last F (label id 2) d2 at3, placed_last F (label id 3) d6 at7))
 
-  pub num_for_good : (k1 k2 k3 a1 a2 a3 all : ℕ) (start : ExprCode) (g1 : Good (id + 1) k1 a1 start) (limit : ExprCode) (g2 : Good k1 k2 a2 limit) (step : Option ExprCode) → GoodStep k2 step a3 k3 → (body : List StatCode) → Stats k3 body all m true → (F : ℕ → Bool) (free : ℕ) (d : Emitter) → Adds F (Unit {0}) (span id m) (8 + (2 + (a1 + a2) + a3 + all)) d (code.num_for_run b start limit step body id free d)
+  pub num_for_good : (k1 k2 k3 a1 a2 a3 all : ℕ) (start : ExprCode) (g1 : Good (id + 1) k1 a1 start) (limit : ExprCode) (g2 : Good k1 k2 a2 limit)
+      (step : Option ExprCode) → GoodStep k2 step a3 k3 → (body : List StatCode) → Stats k3 body all m true → (F : ℕ → Bool) (free : ℕ) (d : Emitter)
+      → Adds F (Unit {0}) (span id m) (8 + (2 + (a1 + a2) + a3 + all)) d (code.num_for_run b start limit step body id free d)
   num_for_good k1 k2 k3 a1 a2 a3 all start g1 limit g2 step g3 body h F free d =
       let N = IsTrue (F (label id 0)) × IsTrue (F (label id 1)) × IsTrue (F (label id 2)) in
       let d1 = start.run (free + 2) 2 d in
@@ -296,7 +311,8 @@ module _ (F : ℕ → Bool) (b : Bindings) (id : ℕ) (looped : Bool) (around : 
   skip_good N true d out = jump F N (i.Jump (pos 0)) (label id 0) d refl refl out
   skip_good N false d out = fit (nothing F N d) (λ l. omega arith) (omega arith)
 
-  pub arm_good : (n m bulk : ℕ) (a : ArmCode) (more : Bool) → GoodArm n m bulk looped a → m ≤ 2 ^ 62 → (free : ℕ) (d : Emitter) → Adds F (IsTrue (F (label id 0)) × Exits F looped around) (span n m) bulk d (code.arm_run b more a id free around d)
+  pub arm_good : (n m bulk : ℕ) (a : ArmCode) (more : Bool) → GoodArm n m bulk looped a → m ≤ 2 ^ 62 → (free : ℕ) (d : Emitter)
+      → Adds F (IsTrue (F (label id 0)) × Exits F looped around) (span n m) bulk d (code.arm_run b more a id free around d)
   arm_good n m bulk a more g low free d =
       let N = (IsTrue (F (label id 0)) × Exits F looped around) × IsTrue (F (label a.cond.id 1)) in
       let d1 = a.cond.jump false free (label a.cond.id 1) d in
@@ -317,25 +333,32 @@ module _ (F : ℕ → Bool) (b : Bindings) (id : ℕ) (looped : Bool) (around : 
       let z = span_join n g.k m l (omega (arith, first)) second in
       omega (arith, e, x, z)) (omega (arith, r, t))) (λ u h. (u, placed_last F (label a.cond.id 1) d3 h))
 
-  pub arms_good : (n : ℕ) (l : List ArmCode) (all m : ℕ) (other : Bool) → GoodArms n l all m looped → m ≤ 2 ^ 62 → (free : ℕ) (d : Emitter) → Adds F (IsTrue (F (label id 0)) × Exits F looped around) (span n m) all d (code.arms_run b other l id free around d)
+  pub arms_good : (n : ℕ) (l : List ArmCode) (all m : ℕ) (other : Bool) → GoodArms n l all m looped → m ≤ 2 ^ 62 → (free : ℕ) (d : Emitter)
+      → Adds F (IsTrue (F (label id 0)) × Exits F looped around) (span n m) all d (code.arms_run b other l id free around d)
   arms_good n [] all m other h low free d = fit (nothing F _ d) (λ l. omega arith) (omega arith)
   arms_good n (a ∷ l) all m other h low free d =
       let rest = arms_le h.k l h.behind m looped h.rest in
       let p = h.first.cond.order in
       let q = stats_le h.first.k a.body h.first.all h.k looped h.first.body in
       let t = h.total in
-      fit (both (arm_good n h.k h.here a (code.has_more other (length l)) h.first (omega (arith, rest, low)) free d) (arms_good h.k l h.behind m other h.rest low free _)) (λ x. let z = span_join n h.k m x (omega (arith, p, q)) rest in omega (arith, z)) (omega (arith, t))
+      fit (both (arm_good n h.k h.here a (code.has_more other (length l)) h.first (omega (arith, rest, low)) free d)
+      (arms_good h.k l h.behind m other h.rest low free _)) (λ x. let z = span_join n h.k m x (omega (arith, p, q)) rest in omega (arith, z))
+      (omega (arith, t))
 
-  pub no_else_good : (l : List ArmCode) (all m : ℕ) → GoodArms (id + 1) l all m looped → m ≤ 2 ^ 62 → (free : ℕ) (d : Emitter) → Adds F (Exits F looped around) (span id m) (8 + (all + 0)) d (code.branches_run b l None id free around d)
+  pub no_else_good : (l : List ArmCode) (all m : ℕ) → GoodArms (id + 1) l all m looped → m ≤ 2 ^ 62 → (free : ℕ) (d : Emitter)
+      → Adds F (Exits F looped around) (span id m) (8 + (all + 0)) d (code.branches_run b l None id free around d)
   no_else_good l all m h low free d =
       let N = IsTrue (F (label id 0)) × Exits F looped around in
       let le = arms_le (id + 1) l all m looped h in
       let d1 = code.arms_run b false l id free around d in
       let p1 = arms_good (id + 1) l all m false h low free d in
       let p2 = place F N id 0 d1 (omega (arith, le, low)) (omega arith) in
-      sure (fit (both p1 p2) (λ q. let x = own_all id m q (omega (arith, le)) in omega (arith, x)) (omega arith)) (λ u h. (placed_last F (label id 0) d1 h, u))
+      sure (fit (both p1 p2) (λ q. let x = own_all id m q (omega (arith, le)) in omega (arith, x)) (omega arith))
+      (λ u h. (placed_last F (label id 0) d1 h, u))
 
-  pub else_good : (l : List ArmCode) (all k : ℕ) → GoodArms (id + 1) l all k looped → (body : List StatCode) (last m : ℕ) → Stats k body last m looped → m ≤ 2 ^ 62 → (free : ℕ) (d : Emitter) → Adds F (Exits F looped around) (span id m) (8 + (all + last)) d (code.branches_run b l (Some body) id free around d)
+  pub else_good : (l : List ArmCode) (all k : ℕ) → GoodArms (id + 1) l all k looped → (body : List StatCode) (last m : ℕ)
+      → Stats k body last m looped → m ≤ 2 ^ 62 → (free : ℕ) (d : Emitter) → Adds F (Exits F looped around) (span id m) (8 + (all + last)) d
+      (code.branches_run b l (Some body) id free around d)
   else_good l all k h body last m g low free d =
       let N = IsTrue (F (label id 0)) × Exits F looped around in
       let le = arms_le (id + 1) l all k looped h in

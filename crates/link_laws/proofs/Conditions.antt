@@ -133,15 +133,19 @@ truth_jumps false value = refl
 
 -- ---- kinds of expressions
 
-pub jump_on_good : (F : ℕ → Bool) (c : ℕ → ℕ) (w : ℕ) (o : Option ℕ) (run : (to results : ℕ) → Step) → ((to : ℕ) (d : Emitter) → Adds F (Unit {0}) c w d (run to 2 d)) → (so : Bool) (to l : ℕ) (d : Emitter) → Adds F (IsTrue (F l)) c (w + 1) d (nodes.jump_on o run so to l d)
+pub jump_on_good : (F : ℕ → Bool) (c : ℕ → ℕ) (w : ℕ) (o : Option ℕ) (run : (to results : ℕ) → Step)
+    → ((to : ℕ) (d : Emitter) → Adds F (Unit {0}) c w d (run to 2 d)) → (so : Bool) (to l : ℕ) (d : Emitter)
+    → Adds F (IsTrue (F l)) c (w + 1) d (nodes.jump_on o run so to l d)
 jump_on_good F c w o run h so to l d =
-    fit (both (operand o) (jump F (IsTrue (F l)) (operators.truth so (nodes.operand_register o to d)) l (nodes.operand_code o (run to 2) d) (truth_one so _) (truth_jumps so _) (λ x. x))) (λ q. omega arith) (omega arith)
+    fit (both (operand o) (jump F (IsTrue (F l)) (operators.truth so (nodes.operand_register o to d)) l (nodes.operand_code o (run to 2) d)
+    (truth_one so _) (truth_jumps so _) (λ x. x))) (λ q. omega arith) (omega arith)
   where
     operand : (p : Option ℕ) → Adds F (IsTrue (F l)) c w d (nodes.operand_code p (run to 2) d)
     operand None = given (h to d) (λ x. tt)
     operand (Some k) = fit (nothing F (IsTrue (F l)) d) (λ q. omega arith) (omega arith)
 
-pub single_good : (id m bulk w : ℕ) → id < m → w + 3 ≤ bulk → (run : ℕ → Step) → ((F : ℕ → Bool) (to : ℕ) (d : Emitter) → Adds F (Unit {0}) (zone id m) w d (run to d)) → Good id m bulk (nodes.single id run)
+pub single_good : (id m bulk w : ℕ) → id < m → w + 3 ≤ bulk → (run : ℕ → Step) → ((F : ℕ → Bool) (to : ℕ) (d : Emitter)
+    → Adds F (Unit {0}) (zone id m) w d (run to d)) → Good id m bulk (nodes.single id run)
 single_good id m bulk w lt room run h = record {
   order = lt;
   id = refl;
@@ -151,7 +155,9 @@ single_good id m bulk w lt room run h = record {
   jump = λ F. jump_on_good F (zone id m) w None (λ to results. run to) (h F);
 }
 
-pub decided_good : (id m bulk w : ℕ) → id < m → w + 2 ≤ bulk → (run : ℕ → Step) (go : (so : Bool) → (to label : ℕ) → Step) → ((F : ℕ → Bool) (to : ℕ) (d : Emitter) → Adds F (Unit {0}) (zone id m) w d (run to d)) → ((F : ℕ → Bool) (so : Bool) (to l : ℕ) (d : Emitter) → Adds F (IsTrue (F l)) (zone id m) w d (go so to l d)) → Good id m bulk (nodes.decided id run go)
+pub decided_good : (id m bulk w : ℕ) → id < m → w + 2 ≤ bulk → (run : ℕ → Step) (go : (so : Bool) → (to label : ℕ) → Step)
+    → ((F : ℕ → Bool) (to : ℕ) (d : Emitter) → Adds F (Unit {0}) (zone id m) w d (run to d))
+    → ((F : ℕ → Bool) (so : Bool) (to l : ℕ) (d : Emitter) → Adds F (IsTrue (F l)) (zone id m) w d (go so to l d)) → Good id m bulk (nodes.decided id run go)
 decided_good id m bulk w lt room run go h g = record {
   order = lt;
   id = refl;
@@ -161,7 +167,8 @@ decided_good id m bulk w lt room run go h g = record {
   jump = g;
 }
 
-pub many_good : (id m bulk w : ℕ) → id < m → w + 3 ≤ bulk → (run : ℕ → ℕ → Step) → ((F : ℕ → Bool) (to results : ℕ) (d : Emitter) → Adds F (Unit {0}) (zone id m) w d (run to results d)) → Good id m bulk (nodes.many id run)
+pub many_good : (id m bulk w : ℕ) → id < m → w + 3 ≤ bulk → (run : ℕ → ℕ → Step) → ((F : ℕ → Bool) (to results : ℕ) (d : Emitter)
+    → Adds F (Unit {0}) (zone id m) w d (run to results d)) → Good id m bulk (nodes.many id run)
 many_good id m bulk w lt room run h = record {
   order = lt;
   id = refl;
@@ -183,32 +190,41 @@ pair_le n k m l lt lt' =
 -- ---- operators
 
 module _ (F : ℕ → Bool) (N : Type 0) where
-  pub operate_by_good : (o : Option ℤ) (z : BinOp) (to left : ℕ) (n m bulk : ℕ) (y : ExprCode) (g : Good n m bulk y) (at : ℕ) (d : Emitter) → Adds F N (zone n m) (g.words + 1) d (conditions.operate_by o z to left y at d)
+  pub operate_by_good : (o : Option ℤ) (z : BinOp) (to left : ℕ) (n m bulk : ℕ) (y : ExprCode) (g : Good n m bulk y) (at : ℕ) (d : Emitter)
+      → Adds F N (zone n m) (g.words + 1) d (conditions.operate_by o z to left y at d)
   operate_by_good None z to left n m bulk y g at d =
       fit (both (operand_good F N n m bulk y g at d) (one F N _ (nodes.operand_run y at d) (arithmetic_one z _ _ _))) (λ l. omega arith) (omega arith)
   operate_by_good (Some x) z to left n m bulk y g at d =
-      fit (both (adds.constant F N (constant.Num x) d) (one F N _ (puts.with_constant (constant.Num x) d) (constant_one z _ _ _))) (λ l. omega arith) (omega arith)
+      fit (both (adds.constant F N (constant.Num x) d) (one F N _ (puts.with_constant (constant.Num x) d) (constant_one z _ _ _))) (λ l. omega arith)
+      (omega arith)
 
-  pub operate_good : (z : BinOp) (to left : ℕ) (n m bulk : ℕ) (y : ExprCode) (g : Good n m bulk y) (at : ℕ) (d : Emitter) → Adds F N (zone n m) (g.words + 1) d (conditions.operate_run z to left y at d)
+  pub operate_good : (z : BinOp) (to left : ℕ) (n m bulk : ℕ) (y : ExprCode) (g : Good n m bulk y) (at : ℕ) (d : Emitter)
+      → Adds F N (zone n m) (g.words + 1) d (conditions.operate_run z to left y at d)
   operate_good z to left n m bulk y g at d = operate_by_good (conditions.near_right y d) z to left n m bulk y g at d
 
   module _ (n k m a b : ℕ) (x y : ExprCode) (gx : Good n k a x) (gy : Good k m b y) where
-    pub arithmetic_by_good : (o : Option ℤ) (z : BinOp) (to : ℕ) (d : Emitter) → Adds F N (span n m) (gx.words + gy.words + 1) d (conditions.arithmetic_by o z x y to d)
+    pub arithmetic_by_good : (o : Option ℤ) (z : BinOp) (to : ℕ) (d : Emitter) → Adds F N (span n m) (gx.words + gy.words + 1) d
+        (conditions.arithmetic_by o z x y to d)
     arithmetic_by_good None z to d =
-        fit (both (operand_good F N n k a x gx to d) (operate_good z to (nodes.operand_at x to d) k m b y gy (to + 1) (nodes.operand_run x to d))) (λ l. pair_le n k m l gx.order gy.order) (omega arith)
+        fit (both (operand_good F N n k a x gx to d) (operate_good z to (nodes.operand_at x to d) k m b y gy (to + 1) (nodes.operand_run x to d)))
+        (λ l. pair_le n k m l gx.order gy.order) (omega arith)
     arithmetic_by_good (Some v) z to d =
         let kept = puts.with_constant (constant.Num v) d in
-        fit (both (both (adds.constant F N (constant.Num v) d) (operand_good F N k m b y gy to kept)) (one F N _ (nodes.operand_run y to kept) (from_one z _ _ _))) (λ l. let p = pair_le n k m l gx.order gy.order in omega (arith, p)) (omega arith)
+        fit (both (both (adds.constant F N (constant.Num v) d) (operand_good F N k m b y gy to kept))
+        (one F N _ (nodes.operand_run y to kept) (from_one z _ _ _))) (λ l. let p = pair_le n k m l gx.order gy.order in omega (arith, p)) (omega arith)
 
     pub arithmetic_good : (z : BinOp) (to : ℕ) (d : Emitter) → Adds F N (span n m) (gx.words + gy.words + 1) d (conditions.arithmetic_run z x y to d)
     arithmetic_good z to d = arithmetic_by_good (conditions.left_number z x d) z to d
 
-    pub compare_good : (z : BinOp) (so : Bool) (to l : ℕ) (d : Emitter) → (N → IsTrue (F l)) → Adds F N (span n m) (gx.words + gy.words + 2) d (conditions.compare_jump z x y so to l d)
+    pub compare_good : (z : BinOp) (so : Bool) (to l : ℕ) (d : Emitter) → (N → IsTrue (F l))
+        → Adds F N (span n m) (gx.words + gy.words + 2) d (conditions.compare_jump z x y so to l d)
     compare_good z so to l d there =
         let first = nodes.operand_run x to d in
         let second = nodes.operand_run y (to + 1) first in
         let test = is_test z so (nodes.operand_at x to d) (nodes.operand_at y (to + 1) first) in
-        fit (both (both (operand_good F N n k a x gx to d) (operand_good F N k m b y gy (to + 1) first)) (branch F N (operators.comparison z so (nodes.operand_at x to d) (nodes.operand_at y (to + 1) first)) l second test.0 there)) (λ q. let p = pair_le n k m q gx.order gy.order in omega (arith, p)) (let t = test.1 in omega (arith, t))
+        fit (both (both (operand_good F N n k a x gx to d) (operand_good F N k m b y gy (to + 1) first))
+        (branch F N (operators.comparison z so (nodes.operand_at x to d) (nodes.operand_at y (to + 1) first)) l second test.0 there))
+        (λ q. let p = pair_le n k m q gx.order gy.order in omega (arith, p)) (let t = test.1 in omega (arith, t))
 
 module _ (id k m a b bulk : ℕ) (x y : ExprCode) (gx : Good (id + 1) k a x) (gy : Good k m b y) (room : 6 + (a + b) ≤ bulk) (low : m ≤ 2 ^ 62) where
   order : id < m
@@ -221,7 +237,8 @@ module _ (id k m a b bulk : ℕ) (x y : ExprCode) (gx : Good (id + 1) k a x) (gy
   sums = let p = gx.room in let q = gy.room in omega (arith, p, q)
 
   pub comparison_good : (z : BinOp) → Good id m bulk (nodes.decided id (conditions.compare_run z x y id) (conditions.compare_jump z x y))
-  comparison_good z = decided_good id m bulk (gx.words + gy.words + 4) order (let s = sums in omega (arith, s, room)) (conditions.compare_run z x y id) (conditions.compare_jump z x y) run go
+  comparison_good z = decided_good id m bulk (gx.words + gy.words + 4) order (let s = sums in omega (arith, s, room))
+      (conditions.compare_run z x y id) (conditions.compare_jump z x y) run go
     where
       run : (F : ℕ → Bool) (to : ℕ) (d : Emitter) → Adds F (Unit {0}) (zone id m) (gx.words + gy.words + 4) d (conditions.compare_run z x y id to d)
       run F to d =
@@ -235,7 +252,8 @@ module _ (id k m a b bulk : ℕ) (x y : ExprCode) (gx : Good (id + 1) k a x) (gy
           let p4 = one F N (i.LoadB to 1 0) d3 refl in
           sure (fit (both (both (both p1 p2) p3) p4) (λ l. omega arith) (omega arith)) (λ u h. placed_last F (label id 0) d2 (p4.back h))
 
-      go : (F : ℕ → Bool) (so : Bool) (to l : ℕ) (d : Emitter) → Adds F (IsTrue (F l)) (zone id m) (gx.words + gy.words + 4) d (conditions.compare_jump z x y so to l d)
+      go : (F : ℕ → Bool) (so : Bool) (to l : ℕ) (d : Emitter) → Adds F (IsTrue (F l)) (zone id m) (gx.words + gy.words + 4) d
+          (conditions.compare_jump z x y so to l d)
       go F so to l d = fit (compare_good F (IsTrue (F l)) (id + 1) k m a b x y gx gy z so to l d (λ h. h)) (λ q. omega arith) (omega arith)
 
   pub arithmetic_is_good : (z : BinOp) → Good id m bulk (nodes.single id (conditions.arithmetic_run z x y))
@@ -248,7 +266,8 @@ module _ (id k m a b bulk : ℕ) (x y : ExprCode) (gx : Good (id + 1) k a x) (gy
   with_own l = let p = pair_le (id + 1) k m l gx.order gy.order in omega (arith, p)
 
   pub and_good : Good id m bulk (conditions.binary_code op.And x y id)
-  and_good = decided_good id m bulk (gx.words + gy.words + 1) order (let s = sums in omega (arith, s, room)) (conditions.and_run x y id) (conditions.and_jump x y id) run go
+  and_good = decided_good id m bulk (gx.words + gy.words + 1) order (let s = sums in omega (arith, s, room)) (conditions.and_run x y id)
+      (conditions.and_jump x y id) run go
     where
       run : (F : ℕ → Bool) (to : ℕ) (d : Emitter) → Adds F (Unit {0}) (zone id m) (gx.words + gy.words + 1) d (conditions.and_run x y id to d)
       run F to d =
@@ -262,7 +281,8 @@ module _ (id k m a b bulk : ℕ) (x y : ExprCode) (gx : Good (id + 1) k a x) (gy
           let p4 = place F N id 0 d3 under (omega arith) in
           sure (fit (both (both (both p1 p2) p3) p4) (λ l. let p = with_own l in omega (arith, p)) (omega arith)) (λ u h. placed_last F (label id 0) d3 h)
 
-      go : (F : ℕ → Bool) (so : Bool) (to l : ℕ) (d : Emitter) → Adds F (IsTrue (F l)) (zone id m) (gx.words + gy.words + 1) d (conditions.and_jump x y id so to l d)
+      go : (F : ℕ → Bool) (so : Bool) (to l : ℕ) (d : Emitter) → Adds F (IsTrue (F l)) (zone id m) (gx.words + gy.words + 1) d
+          (conditions.and_jump x y id so to l d)
       go F true to l d =
           let N = IsTrue (F l) × IsTrue (F (label id 0)) in
           let d1 = x.jump false to (label id 0) d in
@@ -275,7 +295,8 @@ module _ (id k m a b bulk : ℕ) (x y : ExprCode) (gx : Good (id + 1) k a x) (gy
           fit (both (gx.jump F false to l d) (gy.jump F false to l (x.jump false to l d))) (λ l. let p = with_own l in omega (arith, p)) (omega arith)
 
   pub or_good : Good id m bulk (conditions.binary_code op.Or x y id)
-  or_good = decided_good id m bulk (gx.words + gy.words + 1) order (let s = sums in omega (arith, s, room)) (conditions.or_run x y id) (conditions.or_jump x y id) run go
+  or_good = decided_good id m bulk (gx.words + gy.words + 1) order (let s = sums in omega (arith, s, room)) (conditions.or_run x y id)
+      (conditions.or_jump x y id) run go
     where
       run : (F : ℕ → Bool) (to : ℕ) (d : Emitter) → Adds F (Unit {0}) (zone id m) (gx.words + gy.words + 1) d (conditions.or_run x y id to d)
       run F to d =
@@ -289,7 +310,8 @@ module _ (id k m a b bulk : ℕ) (x y : ExprCode) (gx : Good (id + 1) k a x) (gy
           let p4 = place F N id 0 d3 under (omega arith) in
           sure (fit (both (both (both p1 p2) p3) p4) (λ l. let p = with_own l in omega (arith, p)) (omega arith)) (λ u h. placed_last F (label id 0) d3 h)
 
-      go : (F : ℕ → Bool) (so : Bool) (to l : ℕ) (d : Emitter) → Adds F (IsTrue (F l)) (zone id m) (gx.words + gy.words + 1) d (conditions.or_jump x y id so to l d)
+      go : (F : ℕ → Bool) (so : Bool) (to l : ℕ) (d : Emitter) → Adds F (IsTrue (F l)) (zone id m) (gx.words + gy.words + 1) d
+          (conditions.or_jump x y id so to l d)
       go F false to l d =
           let N = IsTrue (F l) × IsTrue (F (label id 0)) in
           let d1 = x.jump true to (label id 0) d in
@@ -331,14 +353,18 @@ module _ (id m a bulk : ℕ) (x : ExprCode) (gx : Good (id + 1) m a x) (room : 6
 
   run_unary : (z : UnOp) (F : ℕ → Bool) (to : ℕ) (d : Emitter) → Adds F (Unit {0}) (zone id m) (gx.words + 1) d (conditions.unary_run z x to d)
   run_unary z F to d =
-      fit (both (operand_good F (Unit {0}) (id + 1) m a x gx to d) (one F (Unit {0}) _ (nodes.operand_run x to d) (unary_one z _ _))) (λ l. let p = inner_le id m l gx.order in omega (arith, p)) (omega arith)
+      fit (both (operand_good F (Unit {0}) (id + 1) m a x gx to d) (one F (Unit {0}) _ (nodes.operand_run x to d) (unary_one z _ _)))
+      (λ l. let p = inner_le id m l gx.order in omega (arith, p)) (omega arith)
 
   pub unary_good : (z : UnOp) → Good id m bulk (conditions.unary_code z x id)
   unary_good unary.Not =
-      decided_good id m bulk (gx.words + 1) before (let p = gx.room in omega (arith, p, room)) (conditions.unary_run unary.Not x) (λ so. x.jump (not so)) (run_unary unary.Not)
+      decided_good id m bulk (gx.words + 1) before (let p = gx.room in omega (arith, p, room)) (conditions.unary_run unary.Not x)
+      (λ so. x.jump (not so)) (run_unary unary.Not)
       (λ F so to l d. fit (gx.jump F (not so) to l d) (λ q. inner_le id m q gx.order) (omega arith))
-  unary_good unary.Len = single_good id m bulk (gx.words + 1) before (let p = gx.room in omega (arith, p, room)) (conditions.unary_run unary.Len x) (run_unary unary.Len)
-  unary_good unary.Minus = single_good id m bulk (gx.words + 1) before (let p = gx.room in omega (arith, p, room)) (conditions.unary_run unary.Minus x) (run_unary unary.Minus)
+  unary_good unary.Len = single_good id m bulk (gx.words + 1) before (let p = gx.room in omega (arith, p, room)) (conditions.unary_run unary.Len x)
+      (run_unary unary.Len)
+  unary_good unary.Minus = single_good id m bulk (gx.words + 1) before (let p = gx.room in omega (arith, p, room))
+      (conditions.unary_run unary.Minus x) (run_unary unary.Minus)
 
   pub paren_good : Good id m bulk (code.paren x id)
   paren_good = record {
@@ -358,7 +384,8 @@ named_good b x name id m bulk lt room = record {
   room = omega (arith, room);
   run = λ F to results d. fit (name_good F (Unit {0}) b x name to d) (λ l. omega arith) (omega arith);
   jump = λ F so to l d.
-      fit (jump_on_good F (zone id m) 2 (names.own_of b x) (λ to results. names.name_run b x name to) (λ at e. fit (name_good F (Unit {0}) b x name at e) (λ q. omega arith) (omega arith)) so to l d) (λ q. omega arith) (omega arith);
+      fit (jump_on_good F (zone id m) 2 (names.own_of b x) (λ to results. names.name_run b x name to)
+      (λ at e. fit (name_good F (Unit {0}) b x name at e) (λ q. omega arith) (omega arith)) so to l d) (λ q. omega arith) (omega arith);
 }
 
 pub number_is_good : (v : ℤ) (id m : ℕ) → id < m → Good id m 6 (code.number_code v id)
@@ -369,7 +396,8 @@ number_is_good v id m lt = record {
   room = omega arith;
   run = λ F to results d. fit (number_good F (Unit {0}) v to d) (λ l. omega arith) (omega arith);
   jump = λ F so to l d.
-      fit (jump_on_good F (zone id m) 1 None (λ to results. operators.number_run v to) (λ at e. fit (number_good F (Unit {0}) v at e) (λ q. omega arith) (omega arith)) so to l d) (λ q. omega arith) (omega arith);
+      fit (jump_on_good F (zone id m) 1 None (λ to results. operators.number_run v to) (λ at e. fit (number_good F (Unit {0}) v at e)
+      (λ q. omega arith) (omega arith)) so to l d) (λ q. omega arith) (omega arith);
 }
 
 -- ---- `if` expressions
@@ -395,7 +423,8 @@ choices_le n (a ∷ l) all m h =
     omega (arith, p, q, r)
 
 module _ (F : ℕ → Bool) (id : ℕ) where
-  pub choice_good : (n m bulk : ℕ) (a : ChoiceCode) → GoodChoice n m bulk a → m ≤ 2 ^ 62 → (to : ℕ) (d : Emitter) → Adds F (IsTrue (F (label id 0))) (span n m) bulk d (conditions.choice_run a id to d)
+  pub choice_good : (n m bulk : ℕ) (a : ChoiceCode) → GoodChoice n m bulk a → m ≤ 2 ^ 62 → (to : ℕ) (d : Emitter)
+      → Adds F (IsTrue (F (label id 0))) (span n m) bulk d (conditions.choice_run a id to d)
   choice_good n m bulk a g low to d =
       let N = IsTrue (F (label id 0)) × IsTrue (F (label a.cond.id 1)) in
       let d1 = a.cond.jump false to (label a.cond.id 1) d in
@@ -418,16 +447,19 @@ module _ (F : ℕ → Bool) (id : ℕ) where
       let z = span_join n g.k m l (omega (arith, first)) (omega (arith, second)) in
       omega (arith, e, x, y, z)) (omega (arith, r, s, t))) (λ u h. (u, placed_last F (label a.cond.id 1) d3 h))
 
-  pub choices_good : (n : ℕ) (l : List ChoiceCode) (all m : ℕ) → GoodChoices n l all m → m ≤ 2 ^ 62 → (to : ℕ) (d : Emitter) → Adds F (IsTrue (F (label id 0))) (span n m) all d (conditions.choices_run l id to d)
+  pub choices_good : (n : ℕ) (l : List ChoiceCode) (all m : ℕ) → GoodChoices n l all m → m ≤ 2 ^ 62 → (to : ℕ) (d : Emitter)
+      → Adds F (IsTrue (F (label id 0))) (span n m) all d (conditions.choices_run l id to d)
   choices_good n [] all m h low to d = fit (nothing F _ d) (λ l. omega arith) (omega arith)
   choices_good n (a ∷ l) all m h low to d =
       let rest = choices_le h.k l h.behind m h.rest in
       let p = h.first.cond.order in
       let q = h.first.value.order in
       let t = h.total in
-      fit (both (choice_good n h.k h.here a h.first (omega (arith, rest, low)) to d) (choices_good h.k l h.behind m h.rest low to _)) (λ x. let z = span_join n h.k m x (omega (arith, p, q)) rest in omega (arith, z)) (omega (arith, t))
+      fit (both (choice_good n h.k h.here a h.first (omega (arith, rest, low)) to d) (choices_good h.k l h.behind m h.rest low to _))
+      (λ x. let z = span_join n h.k m x (omega (arith, p, q)) rest in omega (arith, z)) (omega (arith, t))
 
-pub if_good : (id k m all a bulk : ℕ) (l : List ChoiceCode) → GoodChoices (id + 1) l all k → (e : ExprCode) → Good k m a e → 6 + (all + a) ≤ bulk → m ≤ 2 ^ 62 → Good id m bulk (nodes.single id (conditions.if_run l e id))
+pub if_good : (id k m all a bulk : ℕ) (l : List ChoiceCode) → GoodChoices (id + 1) l all k → (e : ExprCode) → Good k m a e → 6 + (all + a) ≤ bulk
+    → m ≤ 2 ^ 62 → Good id m bulk (nodes.single id (conditions.if_run l e id))
 if_good id k m all a bulk l h e g room low =
     let ge = g.order in
     let le = choices_le (id + 1) l all k h in

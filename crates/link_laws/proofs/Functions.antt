@@ -54,7 +54,8 @@ prototype F N p d is = record {
 }
 
 -- back in the function around, where the functions that are done can be linked
-restored : (F : ℕ → Bool) (N : Type 0) (f : Draft) (d inside : Emitter) → f ≡ d.draft → (AreLinkable d.protos → AreLinkable inside.protos) → Adds F N none 0 d (puts.with_draft f inside)
+restored : (F : ℕ → Bool) (N : Type 0) (f : Draft) (d inside : Emitter) → f ≡ d.draft → (AreLinkable d.protos → AreLinkable inside.protos)
+    → Adds F N none 0 d (puts.with_draft f inside)
 unfolding with_draft
 restored F N f d inside e h = record {
   labels = λ l. let a = ap (λ (x : Draft). times l x.items) e in omega (arith, a);
@@ -66,7 +67,8 @@ restored F N f d inside e h = record {
 }
 
 -- the code of a function that begins with nothing can be linked
-whole_linkable : (id n m all : ℕ) (d d' : Emitter) → 8 + all ≤ 30000 → ((F : ℕ → Bool) → Adds F (Unit {0}) (span n m) (all + 2) (puts.with_draft (puts.blank id) d) d') → IsLinkable d'.draft.items
+whole_linkable : (id n m all : ℕ) (d d' : Emitter) → 8 + all ≤ 30000 → ((F : ℕ → Bool) → Adds F (Unit {0}) (span n m) (all + 2)
+    (puts.with_draft (puts.blank id) d) d') → IsLinkable d'.draft.items
 unfolding with_draft
 whole_linkable id n m all d d' short h =
     let p = h (λ l. false) in
@@ -75,7 +77,8 @@ whole_linkable id n m all d d' short h =
     (λ F c. (h F).on tt c tt)
     (let a = p.words in omega (arith, a, short))
 
-kept : (id : ℕ) (d d' : Emitter) → (AreLinkable (puts.with_draft (puts.blank id) d).protos → AreLinkable d'.protos) → AreLinkable d.protos → AreLinkable d'.protos
+kept : (id : ℕ) (d d' : Emitter) → (AreLinkable (puts.with_draft (puts.blank id) d).protos → AreLinkable d'.protos) → AreLinkable d.protos
+    → AreLinkable d'.protos
 unfolding with_draft
 kept id d d' h = h
 
@@ -83,7 +86,8 @@ named : (id : ℕ) (d d' : Emitter) → d'.draft.func ≡ (puts.with_draft (puts
 unfolding with_draft
 named id d d' e = e
 
-pub func_good : (b : Bindings) (id m all params : ℕ) (vararg : Bool) (body : List StatCode) → Stats (id + 1) body all m false → 8 + all ≤ 30000 → GoodFunc id m (length (names.upvalues_at b id)) (code.func_run b id params vararg body)
+pub func_good : (b : Bindings) (id m all params : ℕ) (vararg : Bool) (body : List StatCode) → Stats (id + 1) body all m false → 8 + all ≤ 30000
+    → GoodFunc id m (length (names.upvalues_at b id)) (code.func_run b id params vararg body)
 func_good b id m all params vararg body h short = record {
   order = let le = stats_le (id + 1) body all m false h in omega (arith, le);
   run = run;
@@ -97,7 +101,9 @@ func_good b id m all params vararg body h short = record {
         let d3 = code.stats_run body params code.no_loop d2 in
         let d4 = puts.insn (i.Return 0 1) d3 in
         let inside : (G : ℕ → Bool) → Adds G (Unit {0}) (span (id + 1) m) (all + 2) begun d4 = λ G.
-        fit (both (both (both (prepared G (Unit {0}) vararg params begun) (declared_good G (Unit {0}) (names.first_at b id) 0 params d1)) (stats_good G (Unit {0}) (id + 1) body all m false h params code.no_loop d2 (λ u e. cc))) (one G (Unit {0}) (i.Return 0 1) d3 refl)) (λ l. omega arith) (omega arith) in
+        fit (both (both (both (prepared G (Unit {0}) vararg params begun) (declared_good G (Unit {0}) (names.first_at b id) 0 params d1))
+        (stats_good G (Unit {0}) (id + 1) body all m false h params code.no_loop d2 (λ u e. cc))) (one G (Unit {0}) (i.Return 0 1) d3 refl))
+        (λ l. omega arith) (omega arith) in
         let links : IsLinkable d4.draft.items = whole_linkable id (id + 1) m all d d4 short inside in
         let o0 = puts.with_draft d.draft d4 in
         let o1 = puts.insn (i.NewClosure to (puts.short (length d.draft.children))) o0 in
@@ -108,5 +114,6 @@ func_good b id m all params vararg body h short = record {
         let p2 = child F (Unit {0}) (length d4.protos) o1 in
         let p3 = captures_good F (Unit {0}) b (names.upvalues_at b d4.draft.func) o2 in
         let p4 = prototype F (Unit {0}) (puts.done params vararg d4.draft) o3 links in
-        let count : length (names.upvalues_at b d4.draft.func) ≡ length (names.upvalues_at b id) = ap (λ k. length (names.upvalues_at b k)) (named id d d4 (inside F).func) in
+        let count : length (names.upvalues_at b d4.draft.func) ≡ length (names.upvalues_at b id) = ap (λ k. length (names.upvalues_at b k))
+        (named id d d4 (inside F).func) in
         fit (both (both (both (both p0 p1) p2) p3) p4) (λ l. omega arith) (omega (arith, count))

@@ -56,7 +56,8 @@ module _ (F : ℕ → Bool) (N : Type 0) where
   ran n m bulk e g to results d = given (g.run F to results d) (λ x. tt)
 
   -- nodes up to k, and those from there on
-  pub after : (n k m : ℕ) → n < k → k ≤ m → (w1 w2 w : ℕ) → w1 + w2 ≤ w → (d1 d2 d3 : Emitter) → Adds F N (zone n k) w1 d1 d2 → Adds F N (span k m) w2 d2 d3 → Adds F N (span n m) w d1 d3
+  pub after : (n k m : ℕ) → n < k → k ≤ m → (w1 w2 w : ℕ) → w1 + w2 ≤ w → (d1 d2 d3 : Emitter) → Adds F N (zone n k) w1 d1 d2
+      → Adds F N (span k m) w2 d2 d3 → Adds F N (span n m) w d1 d3
   after n k m lt le w1 w2 w room d1 d2 d3 p q =
       fit (both p q) (λ l. let a = zone_span n k l lt in let b = span_join n k m l (omega (arith, lt)) le in omega (arith, a, b)) room
 
@@ -81,7 +82,8 @@ module _ (F : ℕ → Bool) (N : Type 0) where
   nils_good at (suc n) d =
       fit (both (one F N (i.LoadNil at) d refl) (nils_good (at + 1) n _)) (λ l. omega arith) (omega arith)
 
-  pub last_good : (n m bulk : ℕ) (e : ExprCode) (g : Good n m bulk e) (at count : ℕ) (d : Emitter) → Adds F N (zone n m) (g.words + count) d (lists.last_run e at count d)
+  pub last_good : (n m bulk : ℕ) (e : ExprCode) (g : Good n m bulk e) (at count : ℕ) (d : Emitter)
+      → Adds F N (zone n m) (g.words + count) d (lists.last_run e at count d)
   last_good n m bulk e g at count d = which e.many
     where
       which : (z : Bool) → Adds F N (zone n m) (g.words + count) d (if z then e.run at (count + 1) d else lists.nils (at + 1) (count - 1) (e.run at 2 d))
@@ -89,7 +91,8 @@ module _ (F : ℕ → Bool) (N : Type 0) where
       which false =
           fit (both (ran n m bulk e g at 2 d) (nils_good (at + 1) (count - 1) (e.run at 2 d))) (λ l. omega arith) (omega arith)
 
-  pub exact_good : (n : ℕ) (es : List ExprCode) (all m : ℕ) → Goods n es all m → (at count : ℕ) (d : Emitter) → Adds F N (span n m) (all + count) d (lists.exact_run es at count d)
+  pub exact_good : (n : ℕ) (es : List ExprCode) (all m : ℕ) → Goods n es all m → (at count : ℕ) (d : Emitter)
+      → Adds F N (span n m) (all + count) d (lists.exact_run es at count d)
   exact_good n [] all m h at count d = fit (nils_good at count d) (λ l. omega arith) (omega arith)
   exact_good n (e ∷ []) all m h at count d =
       let r = h.first.room in
@@ -109,13 +112,15 @@ module _ (F : ℕ → Bool) (N : Type 0) where
     name_good (bound.Local k) name to d = fit (one F N _ d refl) (λ l. omega arith) (omega arith)
     name_good (bound.Up k) name to d = fit (one F N _ d refl) (λ l. omega arith) (omega arith)
     name_good bound.Global name to d =
-        fit (both (adds.text F N name d) (insn F N (i.GetGlobal to (puts.long (puts.text_place name d))) (puts.with_text name d))) (λ l. omega arith) (omega arith)
+        fit (both (adds.text F N name d) (insn F N (i.GetGlobal to (puts.long (puts.text_place name d))) (puts.with_text name d))) (λ l. omega arith)
+        (omega arith)
 
     pub assign_good : (x : Bound) (name : StrId) (from : ℕ) (d : Emitter) → Adds F N none 2 d (names.assign_run b x name from d)
     assign_good (bound.Local k) name from d = fit (one F N _ d refl) (λ l. omega arith) (omega arith)
     assign_good (bound.Up k) name from d = fit (one F N _ d refl) (λ l. omega arith) (omega arith)
     assign_good bound.Global name from d =
-        fit (both (adds.text F N name d) (insn F N (i.SetGlobal from (puts.long (puts.text_place name d))) (puts.with_text name d))) (λ l. omega arith) (omega arith)
+        fit (both (adds.text F N name d) (insn F N (i.SetGlobal from (puts.long (puts.text_place name d))) (puts.with_text name d)))
+        (λ l. omega arith) (omega arith)
 
     pub assign_to_good : (t : Target) (from : ℕ) (d : Emitter) → Adds F N none 2 d (lists.assign_to b t from d)
     assign_to_good NoTarget from d = fit (nothing F N d) (λ l. omega arith) (omega arith)
@@ -157,10 +162,12 @@ module _ (F : ℕ → Bool) (N : Type 0) where
   pub number_good : (n : ℤ) (to : ℕ) (d : Emitter) → Adds F N none 1 d (operators.number_run n to d)
   number_good n to d = which (operators.is_small n)
     where
-      which : (z : Bool) → Adds F N none 1 d (if z then puts.insn (i.LoadN to n) d else puts.insn (i.LoadK to (puts.short (puts.constant_place (constant.Num n) d))) (puts.with_constant (constant.Num n) d))
+      which : (z : Bool) → Adds F N none 1 d (if z then puts.insn (i.LoadN to n) d else puts.insn
+          (i.LoadK to (puts.short (puts.constant_place (constant.Num n) d))) (puts.with_constant (constant.Num n) d))
       which true = one F N (i.LoadN to n) d refl
       which false =
-          fit (both (adds.constant F N (constant.Num n) d) (one F N (i.LoadK to (puts.short (puts.constant_place (constant.Num n) d))) (puts.with_constant (constant.Num n) d) refl)) (λ l. omega arith) (omega arith)
+          fit (both (adds.constant F N (constant.Num n) d) (one F N (i.LoadK to (puts.short (puts.constant_place (constant.Num n) d)))
+          (puts.with_constant (constant.Num n) d) refl)) (λ l. omega arith) (omega arith)
 
   pub text_good : (t : StrId) (to : ℕ) (d : Emitter) → Adds F N none 1 d (operators.text_run t to d)
   text_good t to d =

@@ -161,12 +161,14 @@ module _ (b : Bindings) where
       GoodArm n m (bulk_arm b a) p.in_loop (arm_code b a)
   arm_at a h n m p low w r s =
       let f = first w in
-      let walk : Walk n (expr (out-Arm a).cond ∷ block [] (out-Arm a).body ∷ []) m = subst (λ k. Walk n (expr (out-Arm a).cond ∷ block [] (out-Arm a).body ∷ []) k) (walk_end f.rest) (f.inside nothing) in
+      let walk : Walk n (expr (out-Arm a).cond ∷ block [] (out-Arm a).body ∷ []) m = subst (λ k. Walk n
+      (expr (out-Arm a).cond ∷ block [] (out-Arm a).body ∷ []) k) (walk_end f.rest) (f.inside nothing) in
       let ruled = ap (λ (g : scopes.Part). g p) (sym (levels.arm_is scopes.steps a)) ∙ r in
       let sized = sym (size_levels.arm_is b a) ∙ s in
       let g = h n m p low walk ruled sized in
       subst (λ x. GoodArm n m x p.in_loop (arm_code b a)) (sym (levels.arm_is (bulk.steps b) a))
-      (subst (λ (x : ArmCode). GoodArm n m (bulk_expr b (out-Arm a).cond + total (map (bulk_stat b) (out-Arm a).body)) p.in_loop x) (sym (levels.arm_is (code.steps b) a)) g)
+      (subst (λ (x : ArmCode). GoodArm n m (bulk_expr b (out-Arm a).cond + total (map (bulk_stat b) (out-Arm a).body)) p.in_loop x)
+      (sym (levels.arm_is (code.steps b) a)) g)
 
   all_arms : (l : List (With arm_ok)) (n m : ℕ) (p : Place) → m ≤ 2 ^ 62 → Walk n (map arm (map (λ z. z.0) l)) m →
       scopes.all (map rules_arm (map (λ z. z.0) l)) p ≡ [] → in_all (map (λ e. (e, sizes_in_arm b e)) (map (λ z. z.0) l)) ≡ [] →
@@ -212,15 +214,21 @@ module _ (b : Bindings) where
       let o = out-FuncBody f in
       let x = first w in
       let number : o.id ≡ n = x.number in
-      let walk : Walk (o.id + 1) (map stat o.body) m = subst (λ k. Walk (o.id + 1) (map stat o.body) k) (walk_end x.rest) (subst (λ k. Walk (k + 1) (map stat o.body) x.k) (sym number) (x.inside nothing)) in
+      let walk : Walk (o.id + 1) (map stat o.body) m = subst (λ k. Walk (o.id + 1) (map stat o.body) k) (walk_end x.rest)
+      (subst (λ k. Walk (k + 1) (map stat o.body) x.k) (sym number) (x.inside nothing)) in
       let place : Place = record { in_loop = false; vararg = o.vararg; live = length o.params } in
-      let ruled : scopes.block (map rules_stat o.body) place ≡ [] = right (scopes.too_many o.at 0 (length o.params)) _ (sym (levels.func_is scopes.steps f) ∙ r) in
+      let ruled : scopes.block (map rules_stat o.body) place ≡ [] = right (scopes.too_many o.at 0 (length o.params)) _
+      (sym (levels.func_is scopes.steps f) ∙ r) in
       let sized = sym (size_levels.func_is b f) ∙ right (size_faults b f) _ s in
-      let big : bulk.bulk b f ≤ 30000 = few most_bulk (bulk.bulk b f) _ _ (right (if nat_lt most_registers (need f) then _ else []) _ (left (size_faults b f) (sizes_in_func b f) s)) in
+      let big : bulk.bulk b f ≤ 30000 = few most_bulk (bulk.bulk b f) _ _ (right (if nat_lt most_registers (need f) then _ else []) _
+      (left (size_faults b f) (sizes_in_func b f) s)) in
       let own : bulk.bulk b f ≡ 8 + total (map (bulk_stat b) o.body) = ap (λ (z : bulk.FuncBulk). z.own) (levels.func_is (bulk.steps b) f) in
-      let made : (bulk_func b f).made ≡ length (names.upvalues_at b o.id) = ap (λ (z : bulk.FuncBulk). z.made) (levels.func_is (bulk.steps b) f) ∙ sym (captured_count (slice_get b.upvalues o.id)) in
+      let made : (bulk_func b f).made ≡ length (names.upvalues_at b o.id) = ap (λ (z : bulk.FuncBulk). z.made) (levels.func_is (bulk.steps b) f) ∙
+      sym (captured_count (slice_get b.upvalues o.id)) in
       let g = h m low walk ruled sized (omega (arith, big, own)) in
-      let named : GoodFunc n m (length (names.upvalues_at b o.id)) (code.func_run b o.id (length o.params) o.vararg (map (stat_code b) o.body)) = subst (λ k. GoodFunc k m (length (names.upvalues_at b o.id)) (code.func_run b o.id (length o.params) o.vararg (map (stat_code b) o.body))) number g in
+      let named : GoodFunc n m (length (names.upvalues_at b o.id)) (code.func_run b o.id (length o.params) o.vararg (map (stat_code b) o.body)) =
+      subst (λ k. GoodFunc k m (length (names.upvalues_at b o.id)) (code.func_run b o.id (length o.params) o.vararg (map (stat_code b) o.body)))
+      number g in
       subst (λ z. GoodFunc n m z (func_code b f)) (sym made)
       (subst (λ (z : FuncCode). GoodFunc n m (length (names.upvalues_at b o.id)) z) (sym (levels.func_is (code.steps b) f)) named)
 
@@ -273,7 +281,8 @@ module _ (b : Bindings) where
       let codes = map (expr_code b) (map (λ z. z.0) es) in
       let all = total (map (bulk_expr b) (map (λ z. z.0) es)) in
       let g = all_exprs es (id + 1) m p low w r s in
-      single_good id m (6 + all) (all + 1) (after_one w) (omega arith) _ (λ F to d. fit (both (each_good F (Unit {0}) (id + 1) codes all m g to d) (one F (Unit {0}) _ _ refl)) (λ l. omega arith) (omega arith))
+      single_good id m (6 + all) (all + 1) (after_one w) (omega arith) _ (λ F to d. fit (both (each_good F (Unit {0}) (id + 1) codes all m g to d)
+      (one F (Unit {0}) _ _ refl)) (λ l. omega arith) (omega arith))
   kind_good (level.ExprKind::Call f es) id m p at low w r s =
       let codes = map (expr_code b) (map (λ z. z.0) es) in
       let all = total (map (bulk_expr b) (map (λ z. z.0) es)) in
@@ -284,17 +293,21 @@ module _ (b : Bindings) where
       let room = h.room in
       many_good id m (6 + (bulk_expr b f.0 + all)) (h.words + all + 1) (after_one w) (omega (arith, room)) _
       (λ F to results d.
-      fit (both (after F (Unit {0}) (id + 1) c.k m h.order le h.words all (h.words + all) (omega arith) d _ _ (ran F (Unit {0}) (id + 1) c.k (bulk_expr b f.0) (expr_code b f.0) h to 2 d) (list_good F (Unit {0}) c.k codes all m g (to + 1) _)) (one F (Unit {0}) _ _ refl)) (λ l. omega arith) (omega arith))
+      fit (both (after F (Unit {0}) (id + 1) c.k m h.order le h.words all (h.words + all) (omega arith) d _ _
+      (ran F (Unit {0}) (id + 1) c.k (bulk_expr b f.0) (expr_code b f.0) h to 2 d) (list_good F (Unit {0}) c.k codes all m g (to + 1) _))
+      (one F (Unit {0}) _ _ refl)) (λ l. omega arith) (omega arith))
   kind_good (level.Function f) id m p at low w r s =
       let g = func_at f.0 f.1 (id + 1) m low w r s in
-      single_good id m (6 + (bulk_func b f.0).made) (1 + (bulk_func b f.0).made) (after_one w) (omega arith) (func_code b f.0) (λ F to d. fit (g.run F to d) (λ l. omega arith) (omega arith))
+      single_good id m (6 + (bulk_func b f.0).made) (1 + (bulk_func b f.0).made) (after_one w) (omega arith) (func_code b f.0)
+      (λ F to d. fit (g.run F to d) (λ l. omega arith) (omega arith))
   kind_good (level.ExprKind::If l e) id m p at low w r s =
       let all = total (map (bulk_expr_arm b) (map (λ z. z.0) l)) in
       let c = cut (map expr_arm (map (λ z. z.0) l)) (expr e.0 ∷ []) w in
       let le = walk_le c.rest in
       parts.if_good id c.k m all (bulk_expr b e.0) (6 + (all + bulk_expr b e.0)) (map (choice_code b) (map (λ z. z.0) l))
       (all_choices l (id + 1) c.k p (omega (arith, le, low)) c.first (left _ _ r) (left _ _ s)) (expr_code b e.0)
-      (e.1 c.k m p low c.rest (right (scopes.all (map rules_expr_arm (map (λ z. z.0) l)) p) _ r) (right (in_all (map (λ e. (e, sizes_in_expr_arm b e)) (map (λ z. z.0) l))) _ s)) (omega arith) low
+      (e.1 c.k m p low c.rest (right (scopes.all (map rules_expr_arm (map (λ z. z.0) l)) p) _ r)
+      (right (in_all (map (λ e. (e, sizes_in_expr_arm b e)) (map (λ z. z.0) l))) _ s)) (omega arith) low
   kind_good (level.Index x y) id m p at low w r s = empty_good id m _ (after_one w)
   kind_good (level.Member x t) id m p at low w r s = empty_good id m _ (after_one w)
   kind_good (level.Method o t es) id m p at low w r s = empty_good id m _ (after_one w)
@@ -361,7 +374,9 @@ module _ (b : Bindings) where
       record {
         order = lt;
         run = λ F free l d.
-            fit (both (exact_good F (Exits F p.in_loop l) (id + 1) codes all m g free (length xs) d) (declared_good F (Exits F p.in_loop l) (names.first_at b id) free (length xs) _)) (λ q. let x = inner id m q lt in omega (arith, x)) (omega arith);
+            fit (both (exact_good F (Exits F p.in_loop l) (id + 1) codes all m g free (length xs) d)
+            (declared_good F (Exits F p.in_loop l) (names.first_at b id) free (length xs) _)) (λ q. let x = inner id m q lt in omega (arith, x))
+            (omega arith);
       }
   stat_kind_good (level.Assign ts es) id m p at low w r s =
       let targets = map (expr_code b) (map (λ z. z.0) ts) in
@@ -371,12 +386,14 @@ module _ (b : Bindings) where
       let c = cut (map expr (map (λ z. z.0) ts)) (map expr (map (λ z. z.0) es)) w in
       let le = walk_le c.first in
       let le' = walk_le c.rest in
-      let g = all_exprs es c.k m p low c.rest (right (scopes.all (map rules_expr (map (λ z. z.0) ts)) p) _ r) (right (in_all (map (λ e. (e, sizes_in_expr b e)) (map (λ z. z.0) ts))) _ s) in
+      let g = all_exprs es c.k m p low c.rest (right (scopes.all (map rules_expr (map (λ z. z.0) ts)) p) _ r)
+      (right (in_all (map (λ e. (e, sizes_in_expr b e)) (map (λ z. z.0) ts))) _ s) in
       let count = list_counts (map (λ z. z.0) ts) in
       record {
         order = after_one w;
         run = λ F free l d.
-            fit (both (exact_good F (Exits F p.in_loop l) c.k codes all m g free (length targets) d) (assigns_good F (Exits F p.in_loop l) b targets free _)) (λ q. let e = behind id c.k m q le le' in omega (arith, e)) (omega (arith, count));
+            fit (both (exact_good F (Exits F p.in_loop l) c.k codes all m g free (length targets) d)
+            (assigns_good F (Exits F p.in_loop l) b targets free _)) (λ q. let e = behind id c.k m q le le' in omega (arith, e)) (omega (arith, count));
       }
   stat_kind_good (level.Compound z x y) id m p at low w r s =
       let c = cut (expr x.0 ∷ []) (expr y.0 ∷ []) w in
@@ -387,14 +404,16 @@ module _ (b : Bindings) where
       record {
         order = after_one w;
         run = λ F free l d.
-            fit (blocks.update_good F (Exits F p.in_loop l) c.k m (bulk_expr b y.0) (expr_code b y.0) g b (expr_code b x.0).target z free d) (λ q. let a = zone_span c.k m q g.order in let e = behind id c.k m q le le' in omega (arith, a, e)) (omega (arith, room));
+            fit (blocks.update_good F (Exits F p.in_loop l) c.k m (bulk_expr b y.0) (expr_code b y.0) g b (expr_code b x.0).target z free d)
+            (λ q. let a = zone_span c.k m q g.order in let e = behind id c.k m q le le' in omega (arith, a, e)) (omega (arith, room));
       }
   stat_kind_good (level.StatKind::Call e) id m p at low w r s =
       let g = e.1 (id + 1) m p low w r s in
       let room = g.room in
       record {
         order = after_one w;
-        run = λ F free l d. fit (ran F (Exits F p.in_loop l) (id + 1) m (bulk_expr b e.0) (expr_code b e.0) g free 1 d) (λ q. inner_zone id m q g.order) (omega (arith, room));
+        run = λ F free l d. fit (ran F (Exits F p.in_loop l) (id + 1) m (bulk_expr b e.0) (expr_code b e.0) g free 1 d)
+            (λ q. inner_zone id m q g.order) (omega (arith, room));
       }
   stat_kind_good (level.Do ss) id m p at low w r s =
       let codes = map (stat_code b) (map (λ z. z.0) ss) in
@@ -403,7 +422,8 @@ module _ (b : Bindings) where
       let lt = after_one w in
       record {
         order = lt;
-        run = λ F free l d. fit (block_good F (Exits F p.in_loop l) b (id + 1) codes all m p.in_loop g free l d (λ e. e)) (λ q. inner id m q lt) (omega arith);
+        run = λ F free l d. fit (block_good F (Exits F p.in_loop l) b (id + 1) codes all m p.in_loop g free l d (λ e. e)) (λ q. inner id m q lt)
+            (omega arith);
       }
   stat_kind_good (level.While e ss) id m p at low w r s =
       let codes = map (stat_code b) (map (λ z. z.0) ss) in
@@ -422,7 +442,8 @@ module _ (b : Bindings) where
       let c = cut (map stat (map (λ z. z.0) ss)) (expr e.0 ∷ []) w in
       let le = walk_le c.rest in
       let g = all_stats ss (id + 1) c.k (scopes.in_loop_of 0 p) (omega (arith, le, low)) c.first (left _ _ r) (left _ _ s) in
-      let h = e.1 c.k m p low c.rest (right (scopes.block (map rules_stat (map (λ z. z.0) ss)) (scopes.in_loop_of 0 p)) _ r) (right (in_all (map (λ e. (e, sizes_in_stat b e)) (map (λ z. z.0) ss))) _ s) in
+      let h = e.1 c.k m p low c.rest (right (scopes.block (map rules_stat (map (λ z. z.0) ss)) (scopes.in_loop_of 0 p)) _ r)
+      (right (in_all (map (λ e. (e, sizes_in_stat b e)) (map (λ z. z.0) ss))) _ s) in
       record {
         order = after_one w;
         run = λ F free l d. given (blocks.repeat_good b id m low c.k (bulk_expr b e.0) all codes g (expr_code b e.0) h F free d) (λ x. tt);
@@ -443,11 +464,13 @@ module _ (b : Bindings) where
       let c = cut (map arm (map (λ z. z.0) arms)) (block [] (map (λ z. z.0) ss) ∷ []) w in
       let le = walk_le c.rest in
       let g = all_arms arms (id + 1) c.k p (omega (arith, le, low)) c.first (left _ _ r) (left _ _ s) in
-      let h = all_stats ss c.k m p low (block_walk [] _ c.rest) (right (scopes.all (map rules_arm (map (λ z. z.0) arms)) p) _ r) (right (in_all (map (λ e. (e, sizes_in_arm b e)) (map (λ z. z.0) arms))) _ s) in
+      let h = all_stats ss c.k m p low (block_walk [] _ c.rest) (right (scopes.all (map rules_arm (map (λ z. z.0) arms)) p) _ r)
+      (right (in_all (map (λ e. (e, sizes_in_arm b e)) (map (λ z. z.0) arms))) _ s) in
       record {
         order = after_one w;
         run = λ F free l d.
-            blocks.else_good F b id p.in_loop l codes all c.k g (map (stat_code b) (map (λ z. z.0) ss)) (total (map (bulk_stat b) (map (λ z. z.0) ss))) m h low free d;
+            blocks.else_good F b id p.in_loop l codes all c.k g (map (stat_code b) (map (λ z. z.0) ss))
+            (total (map (bulk_stat b) (map (λ z. z.0) ss))) m h low free d;
       }
   stat_kind_good (level.NumFor t x y None ss) id m p at low w r s =
       let codes = map (stat_code b) (map (λ z. z.0) ss) in
@@ -466,7 +489,8 @@ module _ (b : Bindings) where
       record {
         order = after_one w;
         run = λ F free l d.
-            given (blocks.num_for_good b id m low c1.k c2.k c2.k (bulk_expr b x.0) (bulk_expr b y.0) 0 all (expr_code b x.0) g1 (expr_code b y.0) g2 None (omega arith) codes g4 F free d) (λ z. tt);
+            given (blocks.num_for_good b id m low c1.k c2.k c2.k (bulk_expr b x.0) (bulk_expr b y.0) 0 all (expr_code b x.0) g1 (expr_code b y.0) g2
+            None (omega arith) codes g4 F free d) (λ z. tt);
       }
   stat_kind_good (level.NumFor t x y (Some e) ss) id m p at low w r s =
       let codes = map (stat_code b) (map (λ z. z.0) ss) in
@@ -489,7 +513,8 @@ module _ (b : Bindings) where
       record {
         order = after_one w;
         run = λ F free l d.
-            given (blocks.num_for_good b id m low c1.k c2.k c3.k (bulk_expr b x.0) (bulk_expr b y.0) (bulk_expr b e.0) all (expr_code b x.0) g1 (expr_code b y.0) g2 (Some (expr_code b e.0)) g3 codes g4 F free d) (λ z. tt);
+            given (blocks.num_for_good b id m low c1.k c2.k c3.k (bulk_expr b x.0) (bulk_expr b y.0) (bulk_expr b e.0) all (expr_code b x.0) g1
+            (expr_code b y.0) g2 (Some (expr_code b e.0)) g3 codes g4 F free d) (λ z. tt);
       }
   stat_kind_good (level.GenFor ts es ss) id m p at low w r s =
       record {
@@ -501,7 +526,8 @@ module _ (b : Bindings) where
       record {
         order = after_one w;
         run = λ F free l d.
-            fit (both (adds.variable F (Exits F p.in_loop l) (names.first_at b id) free d) (given (g.run F free _) (λ x. tt))) (λ q. omega arith) (omega arith);
+            fit (both (adds.variable F (Exits F p.in_loop l) (names.first_at b id) free d) (given (g.run F free _) (λ x. tt))) (λ q. omega arith)
+            (omega arith);
       }
   stat_kind_good (level.Return es) id m p at low w r s =
       let codes = map (expr_code b) (map (λ z. z.0) es) in
@@ -511,7 +537,8 @@ module _ (b : Bindings) where
       record {
         order = lt;
         run = λ F free l d.
-            fit (both (list_good F (Exits F p.in_loop l) (id + 1) codes all m g free d) (one F (Exits F p.in_loop l) _ _ refl)) (λ q. let x = inner id m q lt in omega (arith, x)) (omega arith);
+            fit (both (list_good F (Exits F p.in_loop l) (id + 1) codes all m g free d) (one F (Exits F p.in_loop l) _ _ refl))
+            (λ q. let x = inner id m q lt in omega (arith, x)) (omega arith);
       }
   stat_kind_good level.Break id m p at low w r s =
       let looped = in_a_loop p.in_loop _ _ r in
@@ -537,12 +564,14 @@ module _ (b : Bindings) where
       let same : out-ExprKind (roll-ExprKind (kind_parts y)) ≡ kind_parts y = search (rules, folds.the_lemmas, views.the_lemmas) in
       subst KindFits (sym same) (kind_good y)
 
-  stat_kind_step : (y : stat_kind_with) → stat_kind_ok (induction.stat_kind_of kind_ok (λ _. Unit {0}) stat_kind_ok arm_ok expr_ok choice_ok (λ _. Unit {0}) func_ok stat_ok y)
+  stat_kind_step : (y : stat_kind_with) → stat_kind_ok (induction.stat_kind_of kind_ok (λ _. Unit {0}) stat_kind_ok arm_ok expr_ok choice_ok
+      (λ _. Unit {0}) func_ok stat_ok y)
   stat_kind_step y =
       let same : out-StatKind (roll-StatKind (stat_kind_parts y)) ≡ stat_kind_parts y = search (rules, folds.the_lemmas, views.the_lemmas) in
       subst StatFits (sym same) (stat_kind_good y)
 
-  arm_step : (y : induction.arm_with kind_ok (λ _. Unit {0}) stat_kind_ok arm_ok expr_ok choice_ok (λ _. Unit {0}) func_ok stat_ok) → arm_ok (induction.arm_of kind_ok (λ _. Unit {0}) stat_kind_ok arm_ok expr_ok choice_ok (λ _. Unit {0}) func_ok stat_ok y)
+  arm_step : (y : induction.arm_with kind_ok (λ _. Unit {0}) stat_kind_ok arm_ok expr_ok choice_ok (λ _. Unit {0}) func_ok stat_ok)
+      → arm_ok (induction.arm_of kind_ok (λ _. Unit {0}) stat_kind_ok arm_ok expr_ok choice_ok (λ _. Unit {0}) func_ok stat_ok y)
   arm_step y =
       let parts_of = induction.arm_parts kind_ok (λ _. Unit {0}) stat_kind_ok arm_ok expr_ok choice_ok (λ _. Unit {0}) func_ok stat_ok y in
       let same : out-Arm (roll-Arm parts_of) ≡ parts_of = search (rules, folds.the_lemmas, views.the_lemmas) in
@@ -559,12 +588,14 @@ module _ (b : Bindings) where
       } in
       subst ArmFits (sym same) here
 
-  func_step : (y : induction.func_with kind_ok (λ _. Unit {0}) stat_kind_ok arm_ok expr_ok choice_ok (λ _. Unit {0}) func_ok stat_ok) → func_ok (induction.func_of kind_ok (λ _. Unit {0}) stat_kind_ok arm_ok expr_ok choice_ok (λ _. Unit {0}) func_ok stat_ok y)
+  func_step : (y : induction.func_with kind_ok (λ _. Unit {0}) stat_kind_ok arm_ok expr_ok choice_ok (λ _. Unit {0}) func_ok stat_ok)
+      → func_ok (induction.func_of kind_ok (λ _. Unit {0}) stat_kind_ok arm_ok expr_ok choice_ok (λ _. Unit {0}) func_ok stat_ok y)
   func_step y =
       let parts_of = induction.func_parts kind_ok (λ _. Unit {0}) stat_kind_ok arm_ok expr_ok choice_ok (λ _. Unit {0}) func_ok stat_ok y in
       let same : out-FuncBody (roll-FuncBody parts_of) ≡ parts_of = search (rules, folds.the_lemmas, views.the_lemmas) in
       let here : FuncFits parts_of = λ m low w r s short.
-      func_good b y.id m (total (map (bulk_stat b) (map (λ z. z.0) y.body))) (length y.params) y.vararg (map (stat_code b) (map (λ z. z.0) y.body)) (all_stats y.body (y.id + 1) m (record { in_loop = false; vararg = y.vararg; live = length y.params }) low w r s) short in
+      func_good b y.id m (total (map (bulk_stat b) (map (λ z. z.0) y.body))) (length y.params) y.vararg (map (stat_code b) (map (λ z. z.0) y.body))
+      (all_stats y.body (y.id + 1) m (record { in_loop = false; vararg = y.vararg; live = length y.params }) low w r s) short in
       subst FuncFits (sym same) here
 
   -- an expression by its kind
@@ -584,10 +615,13 @@ module _ (b : Bindings) where
       let o = out-ExprKind e.kind in
       let walk : Walk (n + 1) (expr_parts o) m = subst (λ k. Walk (n + 1) (expr_parts o) k) (walk_end f.rest) (f.inside nothing) in
       let number : e.id ≡ n = f.number in
-      let ruled : levels.at_expr_level scopes.steps o e.at p ≡ [] = ap (λ (g : ℕ → scopes.Part). g e.at p) (sym (levels.kind_is scopes.steps e.kind)) ∙ ap (λ (g : scopes.Part). g p) (sym (levels.expr_is scopes.steps e)) ∙ r in
+      let ruled : levels.at_expr_level scopes.steps o e.at p ≡ [] = ap (λ (g : ℕ → scopes.Part). g e.at p) (sym (levels.kind_is scopes.steps e.kind))
+      ∙ ap (λ (g : scopes.Part). g p) (sym (levels.expr_is scopes.steps e)) ∙ r in
       let sized : size_levels.kind_level b o ≡ [] = sym (size_levels.kind_is b e.kind) ∙ sym (size_levels.expr_is b e) ∙ s in
       let g = renumbered n m _ _ (h n m p e.at low walk ruled sized) in
-      let coded : expr_code b e ≡ record (levels.at_expr_level (code.steps b) o n) { id = n } = levels.expr_is (code.steps b) e ∙ ap (λ (f : ℕ → ExprCode). record (f e.id) { id = e.id }) (levels.kind_is (code.steps b) e.kind) ∙ ap (λ k. record (levels.at_expr_level (code.steps b) o k) { id = k }) number in
+      let coded : expr_code b e ≡ record (levels.at_expr_level (code.steps b) o n) { id = n } = levels.expr_is (code.steps b) e ∙ ap
+      (λ (f : ℕ → ExprCode). record (f e.id) { id = e.id }) (levels.kind_is (code.steps b) e.kind) ∙ ap
+      (λ k. record (levels.at_expr_level (code.steps b) o k) { id = k }) number in
       let sum : bulk_expr b e ≡ levels.at_expr_level (bulk.steps b) o = levels.expr_is (bulk.steps b) e ∙ levels.kind_is (bulk.steps b) e.kind in
       subst (λ x. Good n m x (expr_code b e)) (sym sum) (subst (λ (x : ExprCode). Good n m (levels.at_expr_level (bulk.steps b) o) x) (sym coded) g)
 
@@ -597,12 +631,15 @@ module _ (b : Bindings) where
       let o = out-StatKind x.kind in
       let walk : Walk (n + 1) (in_stat o nothing).parts m = subst (λ k. Walk (n + 1) (in_stat o nothing).parts k) (walk_end f.rest) (f.inside nothing) in
       let number : x.id ≡ n = f.number in
-      let ruled : (levels.at_stat_level scopes.steps o x.at).faults p ≡ [] = ap (λ (g : ℕ → scopes.StatRules). (g x.at).faults p) (sym (levels.stat_kind_is scopes.steps x.kind)) ∙ ap (λ (g : scopes.StatRules). g.faults p) (sym (levels.stat_is scopes.steps x)) ∙ r in
+      let ruled : (levels.at_stat_level scopes.steps o x.at).faults p ≡ [] = ap (λ (g : ℕ → scopes.StatRules). (g x.at).faults p)
+      (sym (levels.stat_kind_is scopes.steps x.kind)) ∙ ap (λ (g : scopes.StatRules). g.faults p) (sym (levels.stat_is scopes.steps x)) ∙ r in
       let sized : size_levels.stat_kind_level b o ≡ [] = sym (size_levels.stat_kind_is b x.kind) ∙ sym (size_levels.stat_is b x) ∙ s in
       let g = h n m p x.at low walk ruled sized in
-      let coded : stat_code b x ≡ levels.at_stat_level (code.steps b) o n = levels.stat_is (code.steps b) x ∙ ap (λ (f : ℕ → StatCode). f x.id) (levels.stat_kind_is (code.steps b) x.kind) ∙ ap (levels.at_stat_level (code.steps b) o) number in
+      let coded : stat_code b x ≡ levels.at_stat_level (code.steps b) o n = levels.stat_is (code.steps b) x ∙ ap (λ (f : ℕ → StatCode). f x.id)
+      (levels.stat_kind_is (code.steps b) x.kind) ∙ ap (levels.at_stat_level (code.steps b) o) number in
       let sum : bulk_stat b x ≡ levels.at_stat_level (bulk.steps b) o = levels.stat_is (bulk.steps b) x ∙ levels.stat_kind_is (bulk.steps b) x.kind in
-      subst (λ z. GoodStat n m z p.in_loop (stat_code b x)) (sym sum) (subst (λ (z : StatCode). GoodStat n m (levels.at_stat_level (bulk.steps b) o) p.in_loop z) (sym coded) g)
+      subst (λ z. GoodStat n m z p.in_loop (stat_code b x)) (sym sum) (subst (λ (z : StatCode). GoodStat n m (levels.at_stat_level (bulk.steps b) o)
+      p.in_loop z) (sym coded) g)
 
   choice_from : (a : ExprArm) → expr_ok a.cond → expr_ok a.value → choice_ok a
   choice_from a hc hv n m p low w r s =
@@ -630,7 +667,8 @@ module _ (b : Bindings) where
     stat_kind = stat_kind_step;
     arm = arm_step;
     expr = λ y. expr_from (induction.expr_of kind_ok (λ _. Unit {0}) stat_kind_ok arm_ok expr_ok choice_ok (λ _. Unit {0}) func_ok stat_ok y) y.kind.1;
-    expr_arm = λ y. choice_from (induction.expr_arm_of kind_ok (λ _. Unit {0}) stat_kind_ok arm_ok expr_ok choice_ok (λ _. Unit {0}) func_ok stat_ok y) y.cond.1 y.value.1;
+    expr_arm = λ y. choice_from (induction.expr_arm_of kind_ok (λ _. Unit {0}) stat_kind_ok arm_ok expr_ok choice_ok (λ _. Unit {0}) func_ok stat_ok
+        y) y.cond.1 y.value.1;
     field = λ _. tt;
     func = func_step;
     stat = λ y. stat_from (induction.stat_of kind_ok (λ _. Unit {0}) stat_kind_ok arm_ok expr_ok choice_ok (λ _. Unit {0}) func_ok stat_ok y) y.kind.1;

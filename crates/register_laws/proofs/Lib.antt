@@ -1,0 +1,3 @@
+pub mod NotedLevels
+pub mod Noted
+pub mod Rising
