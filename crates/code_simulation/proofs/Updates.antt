@@ -123,7 +123,7 @@ module _ (p : Setting) (most : ℕ) (calls : (i : ℕ) → i ≤ most → CallsG
           let w3 = under p most own2 u h l d2 file2 w2 in both i lt u d2 file2 w3 (stays i v d2 file.registers file2 see w3 steady) see2)
 
   -- the script reads a local variable that is to be assigned
-  reads_local : (s : Stat) (o : BinOp) (t b : Expr) (x : StrId) (v : Local) (h : Here p most) (l : List Slot) (left : ℕ) (k : List source.Frame)
+  pub reads_local : (s : Stat) (o : BinOp) (t b : Expr) (x : StrId) (v : Local) (h : Here p most) (l : List Slot) (left : ℕ) (k : List source.Frame)
       (d : Dyn) (m : machine.State) → out-StatKind s.kind ≡ level.Compound o t b → out-ExprKind t.kind ≡ level.Name x → local_at l x ≡ Some v
       → Alike p left (source_at p most h (source.Give (at (cells_s d) v.cell))
       (source.Reads (of_stat s) o (statements.target_of (cell_of (env_of p most h l) x) x) b ∷ k) (env_of p most h l) d) m
