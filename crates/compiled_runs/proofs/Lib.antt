@@ -37,3 +37,4 @@ pub mod Trees
 pub mod NumericRuns
 pub mod NumericLoops
 pub mod Compounds
+pub mod BuiltStatements
