@@ -143,7 +143,7 @@ module _ (p : Setting) (most : ℕ) (calls : (i : ℕ) → i ≤ most → CallsG
       (λ n lt2. go n (omega (arith, lt, lt2)))))
 
   -- the script reads a local variable that is to be assigned
-  reads_local : (s : Stat) (o : BinOp) (t b : Expr) (x : StrId) (v : Local) (h : Here p most) (l : List Slot) (left : ℕ) (k : List source.Frame)
+  pub reads_local : (s : Stat) (o : BinOp) (t b : Expr) (x : StrId) (v : Local) (h : Here p most) (l : List Slot) (left : ℕ) (k : List source.Frame)
       (d : Dyn) (m : machine.State) → out-StatKind s.kind ≡ level.Compound o t b → out-ExprKind t.kind ≡ level.Name x → local_at l x ≡ Some v
       → Alike p left (source_at p most h (source.Give (at (cells_s d) v.cell))
       (source.Reads (of_stat s) o (statements.target_of (cell_of (env_of p most h l) x) x) b ∷ k) (env_of p most h l) d) m

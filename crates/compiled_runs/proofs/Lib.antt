@@ -36,3 +36,5 @@ pub mod Bodies
 pub mod Trees
 pub mod NumericRuns
 pub mod NumericLoops
+pub mod Compounds
+pub mod BuiltStatements

@@ -51,7 +51,7 @@ use Rattle.compiled_runs.proofs.Parentheses.{false_true, decided_as}
 
 -- ---- numbers that are found near are those that are written
 
-near_is : (o : Option ℤ) (d : Emitter) (n : ℤ) → near_number o d ≡ Some n → o ≡ Some n
+pub near_is : (o : Option ℤ) (d : Emitter) (n : ℤ) → near_number o d ≡ Some n → o ≡ Some n
 near_is None d n e = e
 near_is (Some m) d n e = by (is_near m d) e
   where
