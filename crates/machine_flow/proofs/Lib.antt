@@ -3,3 +3,4 @@ pub mod Gathered
 pub mod Rows
 pub mod Writing
 pub mod Generated
+pub mod Counting

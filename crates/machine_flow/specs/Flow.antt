@@ -1,14 +1,12 @@
 -- Changes of the function that runs, where values come to it.
 use Rattle.std.specs.Prelude.{ℕ, zero, suc, ◌+◌, ◌-◌, ◌≤◌, IsSomeAnd, Bool, true, false, List, [], ◌∷◌, ◌++◌, length, take, replicate}
 use Rattle.value_model.specs.Values as m
-use Rattle.value_model.specs.Store.{with_new_closure}
 use Rattle.value_model.specs.declared.value.Value.{Value}
 use Rattle.value_model.specs.declared.value.Value.TheVariants.{Nil}
 use Rattle.call_frames.specs.Stacks.{StackView}
 use Rattle.call_frames.specs.Cells.{innermost}
-use Rattle.machine_meaning.specs.States.{Body, Inside, State, capture}
+use Rattle.machine_meaning.specs.States.{Inside}
 use Rattle.machine_meaning.specs.Moves.{at}
-use Rattle.machine_world.specs.Parts.{first_cell}
 use Rattle.machine_world.specs.Sound.{IsLuau}
 
 -- the code goes on at a place, and waits for no call
@@ -38,14 +36,3 @@ abbrev pub ends : List Value → Bool
 ends [] = true
 ends (Nil ∷ vs) = true
 ends (v ∷ vs) = false
-
--- there is a closure more
-abbrev pub made : m.TableRef → Body → State → State
-made env body t = record t { world = record t.world { objects = with_new_closure t.world.objects env body } }
-
--- the cell that an instruction captures, and the function afterwards
-abbrev pub taken_cell : (kind from : ℕ) → Inside → ℕ
-taken_cell kind from i = first_cell (capture kind from (record { taken = []; inside = i })).taken
-
-abbrev pub taken_inside : (kind from : ℕ) → Inside → Inside
-taken_inside kind from i = (capture kind from (record { taken = []; inside = i })).inside
