@@ -32,7 +32,7 @@ use Rattle.code_simulation.proofs.Operations.{jump_is}
 use Rattle.code_simulation.proofs.Blocks.{looping, Backward, BlockRuns, Closes, closes_same}
 
 -- numbers are their own bounds
-bounds_are : (i l s : ℤ) → bounds (Number i) (Number l) (Number s) ≡ Range i l s
+pub bounds_are : (i l s : ℤ) → bounds (Number i) (Number l) (Number s) ≡ Range i l s
 unfolding bounds as_number
 bounds_are i l s = refl
 
@@ -55,7 +55,7 @@ module _ (p : Setting) (most : ℕ) where
       push z' b
 
   -- a write to the three is plain
-  bounds_set : {i : ℕ} (h : Here p most) (u q z : Value) (n m s : ℤ) (l : List Slot) (d : Dyn) (place : ℕ) (file : File)
+  pub bounds_set : {i : ℕ} (h : Here p most) (u q z : Value) (n m s : ℤ) (l : List Slot) (d : Dyn) (place : ℕ) (file : File)
       → Has p most h i (three u q z l) d file → effects.with_bounds (length l) n m s
       (machine_moves.inside (frame p most h place file) d.code) ≡ machine_moves.inside
       (frame p most h place (reset_file file (length l) (Number m) (Number s) (Number n))) d.code
@@ -79,7 +79,7 @@ module _ (p : Setting) (most : ℕ) where
       ∙ ap (λ x. machine.write x (suc (suc a)) (Number n) (machine_moves.inside (frame p most h place (record { registers = f2; top = file.top })) d.code)) e2
 
   -- what the three registers say
-  bounds_read : {i : ℕ} (h : Here p most) (u q z : Value) (l : List Slot) (d : Dyn) (place : ℕ) (file : File) → Has p most h i (three u q z l) d file
+  pub bounds_read : {i : ℕ} (h : Here p most) (u q z : Value) (l : List Slot) (d : Dyn) (place : ℕ) (file : File) → Has p most h i (three u q z l) d file
       → effects.bounds_in (frame p most h place file) d.code (length l) ≡ bounds z u q
   bounds_read h u q z l d place file w =
       let a = length l in
@@ -105,7 +105,7 @@ module _ (p : Setting) (most : ℕ) where
       ∙ ap (λ o. machine_steps.act_charged o (frame p most h place file) h.below_m d.code) reads
 
   -- behind the turn's charge the index moves on, and there is another turn, or none
-  another : (x : StrId) (m s n : ℤ) (body : List Stat) (by : ℤ) (h : Here p most) (l : List Slot) (on last to left : ℕ)
+  pub another : (x : StrId) (m s n : ℤ) (body : List Stat) (by : ℤ) (h : Here p most) (l : List Slot) (on last to left : ℕ)
       → Reads p most h last (insn.ForNLoop (length l) by) to → Backward last by on → (k : List source.Frame) (d : Dyn) (file : File)
       → Has p most h left (three (Number m) (Number s) (Number n) l) d file → (b : Bool) → goes_on (n +ℤ s) m s ≡ b
       → ((file2 : File) → b ≡ true → Has p most h left (three (Number m) (Number s) (Number (n +ℤ s)) l) d file2
