@@ -29,9 +29,8 @@ use Rattle.code_simulation.specs.Relation.{Setting, Code}
 use Rattle.code_simulation.proofs.Along.{CallsGo}
 use Rattle.code_simulation.proofs.Blocks.{outside}
 use Rattle.code_simulation.proofs.Entering.{FuncsGo}
-use Rattle.code_simulation.proofs.Outside.{Coroutines}
+use Rattle.code_simulation.proofs.Promises.{setting}
 use Rattle.code_simulation.proofs.Whole as simulated
-use Rattle.code_simulation.proofs.Whole.{first_dyn}
 use Rattle.compiled_runs.proofs.Constants.{get_last, get_prefix, get_within}
 use Rattle.compiled_runs.proofs.Standing.{Script}
 use Rattle.compiled_runs.proofs.Captures.{Named}
@@ -45,22 +44,35 @@ none_listed : (ks : List ℕ) → ((k : ℕ) → Contains ks k → ⊥) → ks �
 none_listed [] none = refl
 none_listed (k ∷ ks) none = absurd (none k (0, omega arith, refl))
 
+-- the script stands in each setting in which its runs are shown
+abbrev pub script_in : {q : Setting} {b : Bindings} {whole : Emitter} → (most deep : ℕ) → Script q b whole → Script (setting q most deep) b whole
+script_in most deep script = record {
+  main = script.main;
+  is = script.is;
+  few_locals = script.few_locals;
+  strings = script.strings;
+  few_strings = script.few_strings;
+}
+
 module _ (p : Setting) (b : Bindings) (whole : Emitter) (script : Script p b whole) (chunk : Chunk p.chunk b whole (numbered script.main).main)
     (code_is : (f : FuncBody) (n : ℕ) (around : Environment) (ups : List StrId) (proto : ProtoOf)
     → CodeOf b whole (numbered script.main).main f around ups proto → p.IsCode f n around ups proto)
     (is_code : (f : FuncBody) (n : ℕ) (around : Environment) (ups : List StrId) (proto : ProtoOf) → p.IsCode f n around ups proto
     → CodeOf b whole (numbered script.main).main f around ups proto)
     (emitted : whole ≡ script_code b (numbered script.main).main)
-    (laws : (i : ℕ) → Coroutines p i)
-    (performs : (left : ℕ) → ((i : ℕ) → i ≤ left → CallsGo p i) → (f : FuncBody) (s : Sight) (after : List Part)
-    → Sees (numbered script.main).main s (function f ∷ after) → AllPerform p left b whole script (out-FuncBody f).body)
-    (allowed : (left : ℕ) (f : FuncBody) (s : Sight) (after : List Part) → Sees (numbered script.main).main s (function f ∷ after)
-    → AllAllowed p left b whole script (out-FuncBody f).body outside (in_function p b whole script chunk code_is is_code f)) where
+    (performs : (most deep left : ℕ) → ((i : ℕ) → i ≤ left → CallsGo (setting p most deep) i) → (f : FuncBody) (s : Sight) (after : List Part)
+    → Sees (numbered script.main).main s (function f ∷ after)
+    → AllPerform (setting p most deep) left b whole (script_in most deep script) (out-FuncBody f).body)
+    (allowed : (most deep left : ℕ) (f : FuncBody) (s : Sight) (after : List Part) → Sees (numbered script.main).main s (function f ∷ after)
+    → AllAllowed (setting p most deep) left b whole (script_in most deep script) (out-FuncBody f).body outside
+    (in_function (setting p most deep) b whole (script_in most deep script) chunk code_is is_code f)) where
   abbrev tree : Tree
   tree = numbered script.main
 
-  bodies : (i : ℕ) → ((j : ℕ) → j ≤ i → CallsGo p j) → FuncsGo p i
-  bodies i calls = bodies_go p b whole script chunk code_is is_code i calls (performs i calls) (allowed i)
+  bodies : (most deep i : ℕ) → ((j : ℕ) → j ≤ i → CallsGo (setting p most deep) j) → FuncsGo (setting p most deep) i
+  bodies most deep i calls =
+      bodies_go (setting p most deep) b whole (script_in most deep script) chunk code_is is_code i calls (performs most deep i calls)
+      (allowed most deep i)
 
   -- the main function captures nothing
   nothing_captured : upvalues_at b (out-FuncBody tree.main).id ≡ []
@@ -88,18 +100,17 @@ module _ (p : Setting) (b : Bindings) (whole : Emitter) (script : Script p b who
       (λ x e. refl) (subst (λ ks. Named [] ks []) (sym nothing_captured) tt) in
       (c.0, subst (λ n. Code p tree.main n [] [] c.0) main_is c.1)
 
-  module _ (host : HostFields) (replies : List Reply) (no_parameter : (out-FuncBody tree.main).params ≡ [])
-      (others : (n : ℕ) → p.Others n 0 (first_dyn p tree host replies)) where
+  module _ (host : HostFields) (replies : List Reply) (no_parameter : (out-FuncBody tree.main).params ≡ []) where
     -- each report of the script is one of its chunk
     pub to_code : (n : ℕ) (r : Report EventKind source_moves.Look) → SourceRun p.texts tree host replies n r
         → (q : Report EventKind machine_moves.Look) × MachineRun p.chunk host replies n q × Agree (λ look. 1) (λ look. 1) r q
-    to_code n r run = simulated.to_code p laws bodies tree host replies main_coded.0 main_coded.1 no_parameter others n r run
+    to_code n r run = simulated.to_code p bodies tree host replies main_coded.0 main_coded.1 no_parameter n r run
 
     -- each report of the chunk is one of the script
     pub to_source : (n : ℕ) (q : Report EventKind machine_moves.Look) → MachineRun p.chunk host replies n q
         → (r : Report EventKind source_moves.Look) × SourceRun p.texts tree host replies n r × Agree (λ look. 1) (λ look. 1) r q
-    to_source n q run = simulated.to_source p laws bodies tree host replies main_coded.0 main_coded.1 no_parameter others n q run
+    to_source n q run = simulated.to_source p bodies tree host replies main_coded.0 main_coded.1 no_parameter n q run
 
     -- and there is one
     pub ends : (n : ℕ) → (r : Report EventKind source_moves.Look) × SourceRun p.texts tree host replies n r
-    ends n = simulated.ends p laws bodies tree host replies main_coded.0 main_coded.1 no_parameter others n
+    ends n = simulated.ends p bodies tree host replies main_coded.0 main_coded.1 no_parameter n
