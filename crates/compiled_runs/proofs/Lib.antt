@@ -38,3 +38,4 @@ pub mod NumericRuns
 pub mod NumericLoops
 pub mod Compounds
 pub mod BuiltStatements
+pub mod BuiltParts
