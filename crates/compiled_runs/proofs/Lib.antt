@@ -39,3 +39,4 @@ pub mod NumericLoops
 pub mod Compounds
 pub mod BuiltStatements
 pub mod BuiltParts
+pub mod BuiltTrees
