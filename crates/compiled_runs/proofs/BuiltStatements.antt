@@ -268,3 +268,11 @@ module _ (p : Setting) (most : ℕ) (calls : (i : ℕ) → i ≤ most → CallsG
   pub built_performs : (s : Stat) → built_stat s ≡ true → proper_stat s ≡ true → Done s
   built_performs =
       induction.all_stat (λ _. Unit {0}) (λ _. Unit {0}) stat_kind_ok arm_ok (λ _. Unit {0}) (λ _. Unit {0}) (λ _. Unit {0}) (λ _. Unit {0}) stat_ok every
+
+  -- and statements in order do
+  pub all_perform : (ss : List Stat) → all (map built_stat ss) ≡ true → all (map proper_stat ss) ≡ true → AllPerform p most b whole script ss
+  all_perform [] t q = tt
+  all_perform (s ∷ ss) t q =
+      let u = both_true (built_stat s) (all (map built_stat ss)) t in
+      let v = both_true (proper_stat s) (all (map proper_stat ss)) q in
+      (built_performs s u.0 v.0, all_perform ss u.1 v.1)

@@ -38,3 +38,5 @@ pub mod NumericRuns
 pub mod NumericLoops
 pub mod Compounds
 pub mod BuiltStatements
+pub mod BuiltParts
+pub mod BuiltTrees
