@@ -27,8 +27,7 @@ use Rattle.scope_laws.specs.Sight.{Sight, Part, function, Sees}
 use Rattle.code_simulation.specs.Relation.{Setting}
 use Rattle.code_simulation.proofs.Along.{CallsGo}
 use Rattle.code_simulation.proofs.Blocks.{outside}
-use Rattle.code_simulation.proofs.Outside.{Coroutines}
-use Rattle.code_simulation.proofs.Whole.{first_dyn}
+use Rattle.code_simulation.proofs.Promises.{setting}
 use Rattle.compiled_runs.specs.Built.{built_func}
 use Rattle.compiled_runs.proofs.Standing.{Script}
 use Rattle.compiled_runs.proofs.Leaves.{Holds}
@@ -39,6 +38,7 @@ use Rattle.compiled_runs.proofs.Bodies.{functions_coded, in_function}
 use Rattle.compiled_runs.proofs.BuiltStatements.{NameOf, all_perform}
 use Rattle.compiled_runs.proofs.BuiltParts.{inner_fine}
 use Rattle.compiled_runs.proofs.Trees as trees
+use Rattle.compiled_runs.proofs.Trees.{script_in}
 
 module _ (p : Setting) (b : Bindings) (whole : Emitter) (script : Script p b whole) (chunk : Chunk p.chunk b whole (numbered script.main).main)
     (code_is : (f : FuncBody) (n : ℕ) (around : Environment) (ups : List StrId) (proto : ProtoOf)
@@ -47,39 +47,42 @@ module _ (p : Setting) (b : Bindings) (whole : Emitter) (script : Script p b who
     → CodeOf b whole (numbered script.main).main f around ups proto)
     (emitted : whole ≡ script_code b (numbered script.main).main)
     (built : built_func (numbered script.main).main ≡ true) (proper : proper_func (numbered script.main).main ≡ true)
-    (laws : (i : ℕ) → Coroutines p i)
-    (repeats : (left : ℕ) (s : Stat) (body : List Stat) (cond : Expr) (calls : (i : ℕ) → i ≤ left → CallsGo p i)
-    → out-StatKind s.kind ≡ level.Repeat body cond → AllPerform p left b whole script body
-    → Holds p left calls b whole script cond → Performs p left b whole script s)
-    (compounds : (left : ℕ) (s : Stat) (o : BinOp) (t e : Expr) (calls : (i : ℕ) → i ≤ left → CallsGo p i)
-    → out-StatKind s.kind ≡ level.Compound o t e → NameOf t → Holds p left calls b whole script e → Performs p left b whole script s)
-    (allowed : (left : ℕ) (f : FuncBody) (s : Sight) (after : List Part) → Sees (numbered script.main).main s (function f ∷ after)
-    → AllAllowed p left b whole script (out-FuncBody f).body outside (in_function p b whole script chunk code_is is_code f)) where
+    (repeats : (most deep left : ℕ) (s : Stat) (body : List Stat) (cond : Expr) (calls : (i : ℕ) → i ≤ left → CallsGo (setting p most deep) i)
+    → out-StatKind s.kind ≡ level.Repeat body cond → AllPerform (setting p most deep) left b whole (script_in most deep script) body
+    → Holds (setting p most deep) left calls b whole (script_in most deep script) cond
+    → Performs (setting p most deep) left b whole (script_in most deep script) s)
+    (compounds : (most deep left : ℕ) (s : Stat) (o : BinOp) (t e : Expr) (calls : (i : ℕ) → i ≤ left → CallsGo (setting p most deep) i)
+    → out-StatKind s.kind ≡ level.Compound o t e → NameOf t → Holds (setting p most deep) left calls b whole (script_in most deep script) e
+    → Performs (setting p most deep) left b whole (script_in most deep script) s)
+    (allowed : (most deep left : ℕ) (f : FuncBody) (s : Sight) (after : List Part) → Sees (numbered script.main).main s (function f ∷ after)
+    → AllAllowed (setting p most deep) left b whole (script_in most deep script) (out-FuncBody f).body outside
+    (in_function (setting p most deep) b whole (script_in most deep script) chunk code_is is_code f)) where
   -- each function's statements do what they do
-  bodies_perform : (left : ℕ) → ((i : ℕ) → i ≤ left → CallsGo p i) → (f : FuncBody) (s : Sight) (after : List Part)
-      → Sees (numbered script.main).main s (function f ∷ after) → AllPerform p left b whole script (out-FuncBody f).body
-  bodies_perform left calls f s after sees =
+  bodies_perform : (most deep left : ℕ) → ((i : ℕ) → i ≤ left → CallsGo (setting p most deep) i) → (f : FuncBody) (s : Sight) (after : List Part)
+      → Sees (numbered script.main).main s (function f ∷ after)
+      → AllPerform (setting p most deep) left b whole (script_in most deep script) (out-FuncBody f).body
+  bodies_perform most deep left calls f s after sees =
       let fine = inner_fine (numbered script.main).main built proper f s after sees in
-      all_perform p left calls b whole script (functions_coded p b whole script chunk code_is is_code left)
-      (λ x body cond is all cond_holds. repeats left x body cond calls is all cond_holds)
-      (λ x o t e is name value. compounds left x o t e calls is name value)
+      all_perform (setting p most deep) left calls b whole (script_in most deep script)
+      (functions_coded (setting p most deep) b whole (script_in most deep script) chunk code_is is_code left)
+      (λ x body cond is all cond_holds. repeats most deep left x body cond calls is all cond_holds)
+      (λ x o t e is name value. compounds most deep left x o t e calls is name value)
       (out-FuncBody f).body fine.built fine.proper
 
   abbrev tree : Tree
   tree = numbered script.main
 
-  module _ (host : HostFields) (replies : List Reply) (no_parameter : (out-FuncBody tree.main).params ≡ [])
-      (others : (n : ℕ) → p.Others n 0 (first_dyn p tree host replies)) where
+  module _ (host : HostFields) (replies : List Reply) (no_parameter : (out-FuncBody tree.main).params ≡ []) where
     -- each report of the script is one of its chunk
     pub to_code : (n : ℕ) (r : Report EventKind source_moves.Look) → SourceRun p.texts tree host replies n r
         → (q : Report EventKind machine_moves.Look) × MachineRun p.chunk host replies n q × Agree (λ look. 1) (λ look. 1) r q
-    to_code = trees.to_code p b whole script chunk code_is is_code emitted laws bodies_perform allowed host replies no_parameter others
+    to_code = trees.to_code p b whole script chunk code_is is_code emitted bodies_perform allowed host replies no_parameter
 
     -- each report of the chunk is one of the script
     pub to_source : (n : ℕ) (q : Report EventKind machine_moves.Look) → MachineRun p.chunk host replies n q
         → (r : Report EventKind source_moves.Look) × SourceRun p.texts tree host replies n r × Agree (λ look. 1) (λ look. 1) r q
-    to_source = trees.to_source p b whole script chunk code_is is_code emitted laws bodies_perform allowed host replies no_parameter others
+    to_source = trees.to_source p b whole script chunk code_is is_code emitted bodies_perform allowed host replies no_parameter
 
     -- and there is one
     pub ends : (n : ℕ) → (r : Report EventKind source_moves.Look) × SourceRun p.texts tree host replies n r
-    ends = trees.ends p b whole script chunk code_is is_code emitted laws bodies_perform allowed host replies no_parameter others
+    ends = trees.ends p b whole script chunk code_is is_code emitted bodies_perform allowed host replies no_parameter
