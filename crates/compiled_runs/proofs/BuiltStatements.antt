@@ -1,9 +1,8 @@
 -- Each statement all of whose nodes are built does what its code does: by induction over the tree.
-use Rattle.std.proofs.Common.{◌≡◌, ℕ, ◌≤◌, Bool, true, false, ◌&&◌, List, [], ◌∷◌, map, Option, Some, None, rules, refl, sym, ap, ◌∙◌, subst}
+use Rattle.std.proofs.Common.{◌≡◌, ℕ, ◌≤◌, Bool, true, false, ◌&&◌, List, [], ◌∷◌, map, Some, None, rules, refl, sym, ap, ◌∙◌, subst}
 use Rattle.byte_text.specs.declared.fixed.StrId.{StrId}
 use Rattle.syntax_tree.specs.declared.bindings.Bindings.{Bindings}
 use Rattle.syntax_tree.specs.declared.tree.Arm.{Arm, out-Arm, roll-Arm}
-use Rattle.syntax_tree.specs.declared.tree.BinOp.{BinOp}
 use Rattle.syntax_tree.specs.declared.tree.Expr.{Expr}
 use Rattle.syntax_tree.specs.declared.tree.ExprArm.{ExprArm}
 use Rattle.syntax_tree.specs.declared.tree.ExprKind.{ExprKind, out-ExprKind}
@@ -39,12 +38,15 @@ use Rattle.compiled_runs.proofs.Statements.{Performs, AllPerform}
 use Rattle.compiled_runs.proofs.Locals.{local_performs}
 use Rattle.compiled_runs.proofs.LocalFunctions.{local_function_performs}
 use Rattle.compiled_runs.proofs.Blocks.{do_performs}
-use Rattle.compiled_runs.proofs.Branches.{ArmsPerform, ElsePerforms, if_performs}
+use Rattle.compiled_runs.proofs.Branches.{ArmsPerform, if_performs}
 use Rattle.compiled_runs.proofs.Loops.{break_performs, continue_performs, while_performs}
+use Rattle.compiled_runs.proofs.Turns.{any, ends_turn}
+use Rattle.compiled_runs.proofs.Repeats.{EarlyTries, never_early, repeat_performs}
 use Rattle.compiled_runs.proofs.CallStatements.{call_performs}
 use Rattle.compiled_runs.proofs.Returns.{return_performs}
 use Rattle.compiled_runs.proofs.Assigns.{assign_performs}
-use Rattle.compiled_runs.proofs.NumericLoops.{StepHolds, num_for_performs}
+use Rattle.compiled_runs.proofs.NamedUpdates.{update_performs}
+use Rattle.compiled_runs.proofs.NumericLoops.{num_for_performs}
 
 out_roll_stat : (x : StatLevel) → out-StatKind (roll-StatKind x) ≡ x
 out_roll_stat x = search (rules, folds.the_lemmas, views.the_lemmas)
@@ -113,10 +115,8 @@ names_of (e ∷ es) t u =
 
 module _ (p : Setting) (most : ℕ) (calls : (i : ℕ) → i ≤ most → CallsGo p i) (b : Bindings) (whole : Emitter) (script : Script p b whole)
     (coded : FunctionsCoded p most b whole script)
-    (repeats : (s : Stat) (body : List Stat) (cond : Expr) → out-StatKind s.kind ≡ level.Repeat body cond → AllPerform p most b whole script body
-    → Holds p most calls b whole script cond → Performs p most b whole script s)
-    (compounds : (s : Stat) (o : BinOp) (t e : Expr) → out-StatKind s.kind ≡ level.Compound o t e → NameOf t → Holds p most calls b whole script e
-    → Performs p most b whole script s) where
+    (early : (body : List Stat) (cond : Expr) → any (map ends_turn body) ≡ true → Holds p most calls b whole script cond
+    → EarlyTries p most b whole script body cond) where
   abbrev Done : Stat → Type 0
   Done s = Performs p most b whole script s
 
@@ -163,6 +163,11 @@ module _ (p : Setting) (most : ℕ) (calls : (i : ℕ) → i ≤ most → CallsG
       let v = both_true (proper_arm a.0) (all (map proper_arm (map (λ z. z.0) arms))) q in
       (a.1 u.0 v.0, arms_done arms u.1 v.1)
 
+  tries : (body : List Stat) (cond : Expr) → Holds p most calls b whole script cond → (t : Bool) → any (map ends_turn body) ≡ t
+      → EarlyTries p most b whole script body cond
+  tries body cond c true e = early body cond e c
+  tries body cond c false e = never_early p most b whole script body cond e
+
   by_kind : (y : StatWith) (s : Stat) → out-StatKind s.kind ≡ stat_parts y → levels.at_stat_level built.steps (stat_parts y) ≡ true
       → levels.at_stat_level proper.steps (stat_parts y) ≡ true → Done s
   by_kind (level.Local xs es) s is t q = local_performs p most b whole script s xs (map (λ z. z.0) es) is (all_hold (map (λ z. z.0) es) t)
@@ -184,7 +189,9 @@ module _ (p : Setting) (most : ℕ) (calls : (i : ℕ) → i ≤ most → CallsG
       let h2 = (form_expr x.0).target in
       let h3 = (form_expr x.0).proper in
       let q2 = (both_true (h1 && h2) h3 (both_true (h1 && h2 && h3) (form_expr e.0).proper q).0).0 in
-      compounds s o x.0 e.0 is (name_of x.0 (both_true h1 h2 q2).1 u.0) (holds e.0 u.1)
+      let v = both_true h1 h2 q2 in
+      let n = name_of x.0 v.1 u.0 in
+      update_performs p most calls b whole script s o x.0 e.0 n.name v.0 is n.is (holds e.0 u.1)
   by_kind (level.StatKind::Call e) s is t q =
       let c = call_of e.0 (both_true (form_expr e.0).calls (form_expr e.0).proper q).0 t in
       call_performs p most calls b whole script s e.0 c.callee c.args is c.is (holds c.callee c.built_callee) (all_hold c.args c.built_args)
@@ -198,7 +205,9 @@ module _ (p : Setting) (most : ℕ) (calls : (i : ℕ) → i ≤ most → CallsG
       let stats = map (λ z. z.0) body in
       let u = both_true (all (map built_stat stats)) (built_expr c.0) t in
       let v = both_true (all (map proper_stat stats)) (form_expr c.0).proper q in
-      repeats s stats c.0 is (all_done body u.0 v.0) (holds c.0 u.1)
+      let c_holds = holds c.0 u.1 in
+      repeat_performs p most b whole script calls s stats c.0 is (all_done body u.0 v.0) c_holds
+      (tries stats c.0 c_holds (any (map ends_turn stats)) refl)
   by_kind (level.StatKind::If arms None) s is t q =
       let list = map (λ z. z.0) arms in
       let u = both_true (all (map (at_arm built.steps) list)) true t in

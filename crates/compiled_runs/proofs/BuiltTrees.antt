@@ -1,13 +1,10 @@
 -- Whole scripts all of whose nodes are built: each run is one of the chunk of the linked functions, and the other way round.
-use Rattle.std.proofs.Common.{◌≡◌, ℕ, ◌≤◌, Bool, true, List, [], ◌∷◌}
+use Rattle.std.proofs.Common.{◌≡◌, ℕ, ◌≤◌, true, List, [], ◌∷◌, map}
 use Rattle.byte_text.specs.declared.fixed.StrId.{StrId}
 use Rattle.syntax_tree.specs.declared.bindings.Bindings.{Bindings}
-use Rattle.syntax_tree.specs.declared.tree.BinOp.{BinOp}
 use Rattle.syntax_tree.specs.declared.tree.Expr.{Expr}
-use Rattle.syntax_tree.specs.declared.tree.ExprKind.TheOpen as level
 use Rattle.syntax_tree.specs.declared.tree.FuncBody.{FuncBody, out-FuncBody}
 use Rattle.syntax_tree.specs.declared.tree.Stat.{Stat}
-use Rattle.syntax_tree.specs.declared.tree.StatKind.{out-StatKind}
 use Rattle.syntax_tree.specs.declared.tree.Tree.{Tree}
 use Rattle.syntax_tree.specs.Numbers.{numbered}
 use Rattle.syntax_tree.specs.Proper.{proper_func}
@@ -31,11 +28,13 @@ use Rattle.code_simulation.proofs.Promises.{setting}
 use Rattle.compiled_runs.specs.Built.{built_func}
 use Rattle.compiled_runs.proofs.Standing.{Script}
 use Rattle.compiled_runs.proofs.Leaves.{Holds}
-use Rattle.compiled_runs.proofs.Statements.{Performs, AllPerform}
+use Rattle.compiled_runs.proofs.Statements.{AllPerform}
+use Rattle.compiled_runs.proofs.Turns.{any, ends_turn}
+use Rattle.compiled_runs.proofs.Repeats.{EarlyTries}
 use Rattle.compiled_runs.proofs.Blocks.{AllAllowed}
 use Rattle.compiled_runs.proofs.Chunks.{Chunk, CodeOf}
 use Rattle.compiled_runs.proofs.Bodies.{functions_coded, in_function}
-use Rattle.compiled_runs.proofs.BuiltStatements.{NameOf, all_perform}
+use Rattle.compiled_runs.proofs.BuiltStatements.{all_perform}
 use Rattle.compiled_runs.proofs.BuiltParts.{inner_fine}
 use Rattle.compiled_runs.proofs.Trees as trees
 use Rattle.compiled_runs.proofs.Trees.{script_in}
@@ -47,13 +46,9 @@ module _ (p : Setting) (b : Bindings) (whole : Emitter) (script : Script p b who
     → CodeOf b whole (numbered script.main).main f around ups proto)
     (emitted : whole ≡ script_code b (numbered script.main).main)
     (built : built_func (numbered script.main).main ≡ true) (proper : proper_func (numbered script.main).main ≡ true)
-    (repeats : (most deep left : ℕ) (s : Stat) (body : List Stat) (cond : Expr) (calls : (i : ℕ) → i ≤ left → CallsGo (setting p most deep) i)
-    → out-StatKind s.kind ≡ level.Repeat body cond → AllPerform (setting p most deep) left b whole (script_in most deep script) body
-    → Holds (setting p most deep) left calls b whole (script_in most deep script) cond
-    → Performs (setting p most deep) left b whole (script_in most deep script) s)
-    (compounds : (most deep left : ℕ) (s : Stat) (o : BinOp) (t e : Expr) (calls : (i : ℕ) → i ≤ left → CallsGo (setting p most deep) i)
-    → out-StatKind s.kind ≡ level.Compound o t e → NameOf t → Holds (setting p most deep) left calls b whole (script_in most deep script) e
-    → Performs (setting p most deep) left b whole (script_in most deep script) s)
+    (early : (most deep left : ℕ) (body : List Stat) (cond : Expr) (calls : (i : ℕ) → i ≤ left → CallsGo (setting p most deep) i)
+    → any (map ends_turn body) ≡ true → Holds (setting p most deep) left calls b whole (script_in most deep script) cond
+    → EarlyTries (setting p most deep) left b whole (script_in most deep script) body cond)
     (allowed : (most deep left : ℕ) (f : FuncBody) (s : Sight) (after : List Part) → Sees (numbered script.main).main s (function f ∷ after)
     → AllAllowed (setting p most deep) left b whole (script_in most deep script) (out-FuncBody f).body outside
     (in_function (setting p most deep) b whole (script_in most deep script) chunk code_is is_code f)) where
@@ -65,8 +60,7 @@ module _ (p : Setting) (b : Bindings) (whole : Emitter) (script : Script p b who
       let fine = inner_fine (numbered script.main).main built proper f s after sees in
       all_perform (setting p most deep) left calls b whole (script_in most deep script)
       (functions_coded (setting p most deep) b whole (script_in most deep script) chunk code_is is_code left)
-      (λ x body cond is all cond_holds. repeats most deep left x body cond calls is all cond_holds)
-      (λ x o t e is name value. compounds most deep left x o t e calls is name value)
+      (λ body cond ends cond_holds. early most deep left body cond calls ends cond_holds)
       (out-FuncBody f).body fine.built fine.proper
 
   abbrev tree : Tree

@@ -1,5 +1,5 @@
 -- A compound assignment of an arithmetic operator to a local: the operator's value goes into the local's own register.
-use Rattle.std.proofs.Common.{Bool, true, false, ◌≡◌, ℕ, suc, ◌+◌, ◌≤◌, ℤ, max, List, [], ◌∷◌, length, map, Option, Some, None, refl, sym, ap, ◌∙◌, subst, arith, if◌then◌else◌}
+use Rattle.std.proofs.Common.{Bool, true, false, ◌≡◌, ℕ, suc, ◌+◌, ◌≤◌, ℤ, max, List, [], ◌∷◌, length, Option, Some, None, refl, sym, ap, ◌∙◌, subst, arith}
 use Rattle.std.specs.Prelude.{unwrap_or}
 use Rattle.byte_text.specs.declared.fixed.StrId.{StrId}
 use Rattle.syntax_tree.specs.declared.bindings.Bindings.{Bindings}
@@ -12,7 +12,7 @@ use Rattle.syntax_tree.specs.declared.tree.ExprKind.{out-ExprKind}
 use Rattle.syntax_tree.specs.declared.tree.ExprKind.TheOpen as level
 use Rattle.syntax_tree.specs.declared.tree.Stat.{Stat}
 use Rattle.syntax_tree.specs.declared.tree.StatKind.{out-StatKind}
-use Rattle.syntax_tree.specs.Need.{ExprNeed, StatNeed, need_expr, need_stat, parts_need}
+use Rattle.syntax_tree.specs.Need.{StatNeed, need_expr, need_stat, parts_need}
 use Rattle.value_model.specs.declared.operator.ArithOp.{ArithOp}
 use Rattle.value_model.specs.Values.{Value, Number}
 use Rattle.value_model.specs.Choices.{Operation, Arith}
@@ -28,7 +28,7 @@ use Rattle.machine_meaning.specs.Moves as machine_moves
 use Rattle.emit_expr.specs.declared.draft.Emitter.{Emitter}
 use Rattle.emit_expr.specs.Puts.{insn, constant_place, with_constant}
 use Rattle.emit_expr.specs.Names.{bound_at, is_captured, register_of}
-use Rattle.emit_expr.specs.Operators.{arithmetic, arithmetic_constant, near_number}
+use Rattle.emit_expr.specs.Operators.{arithmetic, arithmetic_constant}
 use Rattle.emit_laws.proofs.Grows as grows
 use Rattle.emit_laws.proofs.Keeps as keeps
 use Rattle.node_code.specs.Nodes.{ExprCode, Target, Named, operand_at, operand_run}
@@ -166,19 +166,19 @@ pub record IsUpdate (o : BinOp) : Type 0 where
 module _ (p : Setting) (most : ℕ) (calls : (i : ℕ) → i ≤ most → CallsGo p i) (b : Bindings) (whole : Emitter) (script : Script p b whole) where
   module _ (y : Expr) (hy : Holds p most calls b whole script y) (h : Here p most) (r : Runs p most b whole script h) where
     -- the right operand is a constant, or its code comes first
-    abbrev own_by : Option ℤ → Bool
+    abbrev pub own_by : Option ℤ → Bool
     own_by None = has_temp (expr_code b y).own
     own_by (Some n) = false
 
-    abbrev sees_by : Option ℤ → (at : ℕ) → Emitter → Sight
+    abbrev pub sees_by : Option ℤ → (at : ℕ) → Emitter → Sight
     sees_by None at d = in_register (operand_at (expr_code b y) at d)
     sees_by (Some n) at d = constant (Number n)
 
-    abbrev last_by : Option ℤ → (at : ℕ) → Emitter → ℕ
+    abbrev pub last_by : Option ℤ → (at : ℕ) → Emitter → ℕ
     last_by None at d = here (operand_run (expr_code b y) at d)
     last_by (Some n) at d = here d
 
-    operand_by : (q : Option ℤ) (o : BinOp) (to left at : ℕ) (l : List Slot) (d : Emitter) → near_right (expr_code b y) d ≡ q → length l ≡ at
+    pub operand_by : (q : Option ℤ) (o : BinOp) (to left at : ℕ) (l : List Slot) (d : Emitter) → near_right (expr_code b y) d ≡ q → length l ≡ at
         → At p most b whole script h r (expr y ∷ []) l d → d.draft.func ≡ r.final.func → length l + (need_expr y).need ≤ h.proto.registers
         → In p most b whole script h r (operate_by q o to left (expr_code b y) at d)
         → OperandRuns p most y h l (here d) (last_by q at d) (own_by q) (sees_by q at d)
@@ -190,7 +190,7 @@ module _ (p : Setting) (most : ℕ) (calls : (i : ℕ) → i ≤ most → CallsG
         (λ s. (hy.operand h r [] l d (record { at = a; inside = s; func = func; room = room })).0) s1
     operand_by (Some n) o to left at l d near e a func room s = hy.number n (near_is (expr_code b y).number d n near) h l (here d)
 
-    operates_by : (q : Option ℤ) (o : BinOp) (ao : ArithOp) → IsArithmetic o ao → (to left at : ℕ) (d : Emitter)
+    pub operates_by : (q : Option ℤ) (o : BinOp) (ao : ArithOp) → IsArithmetic o ao → (to left at : ℕ) (d : Emitter)
         → In p most b whole script h r (operate_by q o to left (expr_code b y) at d)
         → Operates p most h (last_by q at d) (Arith ao) (in_register left) (sees_by q at d) to (here (operate_by q o to left (expr_code b y) at d))
     operates_by None o ao ar to left at d s =
@@ -219,7 +219,7 @@ module _ (p : Setting) (most : ℕ) (calls : (i : ℕ) → i ≤ most → CallsG
   global_local : {k : ℕ} → bound.Global ≡ bound.Local k → ⊥
   global_local e = cc
 
-  local_found : (h : Here p most) (r : Runs p most b whole script h) (x : StrId) (l : List Slot) (d : Emitter) (o : Bound) (k : ℕ)
+  pub local_found : (h : Here p most) (r : Runs p most b whole script h) (x : StrId) (l : List Slot) (d : Emitter) (o : Bound) (k : ℕ)
       → Stands p most b whole script h r x l d o → o ≡ bound.Local k → Found b r.from.scope r.from.declared l d.draft.variables x k
   local_found h r x l d _ k (local j f) e = subst (Found b r.from.scope r.from.declared l d.draft.variables x) (same_local e) f
   local_found h r x l d _ k (upvalue j out up) e = absurd (up_local e)
@@ -283,7 +283,7 @@ module _ (p : Setting) (most : ℕ) (calls : (i : ℕ) → i ≤ most → CallsG
       (operates_by y hy h r q o ao ar n (length l) (length l + 1) d1 inside))
       (omega (arith, room)))
 
-  operated_keeps : (o : BinOp) (y : Expr) (to free : ℕ) (d : Emitter) → keeps.Keeps d (operated o (expr_code b y) to free d)
+  pub operated_keeps : (o : BinOp) (y : Expr) (to free : ℕ) (d : Emitter) → keeps.Keeps d (operated o (expr_code b y) to free d)
   operated_keeps op.Concat y to free d = keeps.put _ d ((expr_code b y).run (free + 1) 2 d) (value_keeps b y (free + 1) 2 d)
   operated_keeps z y to free d = keeps.operate_good z to free (expr_code b y) (keeps.expr_is_good b y) (free + 1) d d (keeps.none d)
 
@@ -294,7 +294,7 @@ module _ (p : Setting) (most : ℕ) (calls : (i : ℕ) → i ≤ most → CallsG
       keeps.put _ d ((expr_code b y).run (free + 1) 2 d1) (keeps.after d d1 ((expr_code b y).run (free + 1) 2 d1) k1 (value_keeps b y (free + 1) 2 d1))
   own_keeps z y register free d = keeps.operate_good z register register (expr_code b y) (keeps.expr_is_good b y) free d d (keeps.none d)
 
-  local_keeps : (captured : Bool) (y : Expr) (o : BinOp) (register free : ℕ) (d : Emitter)
+  pub local_keeps : (captured : Bool) (y : Expr) (o : BinOp) (register free : ℕ) (d : Emitter)
       → keeps.Keeps d (update_local captured o (expr_code b y) register free d)
   local_keeps true y o register free d =
       let d1 = insn (insns.Move free register) d in

@@ -37,6 +37,8 @@ pub mod Trees
 pub mod NumericRuns
 pub mod NumericLoops
 pub mod Compounds
+pub mod NamedUpdates
+pub mod Repeats
 pub mod BuiltStatements
 pub mod BuiltParts
 pub mod BuiltTrees
