@@ -2,6 +2,7 @@ pub mod Reading
 pub mod Places
 pub mod Sights
 pub mod Scopes
+pub mod Skipped
 pub mod Numbers
 pub mod Standing
 pub mod Constants
