@@ -1,0 +1,4 @@
+pub mod Clear
+pub mod LoopWords
+pub mod Linked
+pub mod Scripts
