@@ -1,6 +1,6 @@
 //! A script is compiled.
 
-ghost use Rattle.std.specs.Prelude.{◌≡◌, [], IfOk};
+ghost use Rattle.std.specs.Prelude.{◌≡◌, ◌<◌, ◌≤◌, ◌^◌, [], length, true, IfOk};
 ghost use Rattle.syntax_tree.specs.Bound.{bound, faults};
 ghost use Rattle.op_words.specs.Chunks.{chunk_of};
 ghost use Rattle.script_compiler.specs.Compiled.{IsNumbered, IsCompiled};
@@ -8,7 +8,7 @@ ghost use Rattle.script_compiler.specs.Compiled.{IsNumbered, IsCompiled};
 use crate::prototypes::link_all;
 use crate::texts::texts_of;
 use byte_text::Interner;
-use emit_expr::long;
+use emit_expr::{Emitter, long};
 use emit_stat::emit_script;
 use function_registers::registers;
 use link_laws::code_links;
@@ -17,13 +17,32 @@ use resource::OutOfMemory;
 use std::alloc::Global;
 use syntax_tree::{Bindings, Facts, Level, Tree};
 
-// There is no memory for a tree of more nodes.
+// There is no memory for a tree of more nodes, or for more locals.
 const MOST_NODES: usize = 4_611_686_018_427_387_904;
+
+// There are no more numbers for the strings and functions of a chunk.
+const MOST_NUMBERS: usize = 4_294_967_296;
+
+// Whether there are numbers for what was emitted.
+fn is_numbered(bindings: &Bindings, code: &Emitter) -> bool
+    ensures strings { result ≡ true → length code.now.strings ≤ 2 ^ 32 }
+    ensures protos { result ≡ true → length code.now.protos ≤ 2 ^ 32 }
+    ensures locals { result ≡ true → length bindings.now.locals < 2 ^ 64 }
+{
+    code.strings.len() <= MOST_NUMBERS
+        && code.protos.len() <= MOST_NUMBERS
+        && bindings.locals.len() <= MOST_NODES
+}
 
 /// The chunk of a script: the code of each of its functions, and the strings that they name.
 ///
 /// The tree's nodes are numbered in source order, it breaks no rule of scopes and sizes, and the bindings are its own. The facts and the
-/// level change nothing yet. The only error is want of memory.
+/// level change nothing yet.
+///
+/// The only error is want of memory. It is also the answer where the chunk's format has no numbers left: for more than 2^32 functions or
+/// strings, and for a function of more than 255 parameters or captured variables, 32,768 constants or 32,768 functions in it. The rules
+/// of scopes and sizes let no function have so many: at most 200 of the former, and a bulk of 30,000, of which each constant takes six and
+/// each function in it as many.
 pub fn compile(
     alloc: Global,
     tree: &Tree,
@@ -43,6 +62,9 @@ pub fn compile(
     code_links();
     let sizes = registers(alloc, &tree.main)?;
     let code = emit_script(alloc, &tree.main, bindings)?;
+    if !is_numbered(bindings, &code) {
+        return Err(OutOfMemory);
+    }
     let strings = texts_of(alloc, names, code.strings.as_slice())?;
     let protos = link_all(alloc, bindings, sizes.as_slice(), code.protos.as_slice())?;
     let main = long(code.protos.len().saturating_sub(1));

@@ -1,0 +1,6 @@
+//! What the runs of a script have to do with those of its chunk.
+#![tactic(auto)]
+
+mod laws;
+
+pub use laws::parsed_accepted;
