@@ -1,6 +1,7 @@
 mod ChunkFields
 mod ConstantFields
 mod ContentFields
+mod Counted
 mod Examples
 mod Fields
 mod FilesCut

@@ -1,6 +1,7 @@
 //! Chunks as bytes of a file.
 #![tactic(auto)]
 
+mod counts;
 mod error;
 mod fault;
 mod laws;
@@ -10,6 +11,7 @@ mod reading;
 mod writing;
 
 pub use chunk_listing::list;
+pub use counts::has_counts;
 pub use error::ChunkErr;
 pub use laws::{one_spelling, reads_spellings};
 pub use reading::read;
