@@ -13,12 +13,12 @@ use Rattle.machine_meaning.specs.States.{Frame, Focus, Run, Charged, GiveAll, Jo
 use Rattle.machine_meaning.specs.Moves.{store_of}
 use Rattle.value_model.specs.Store.{here}
 use Rattle.value_model.specs.Waits.{Wait, waiting}
-use Rattle.checked_runs.specs.Places.{LeadsTo, LeadsOn}
+use Rattle.checked_runs.specs.Places.{LeadsTo, LeadsOn, LeadsBack}
 use Rattle.checked_runs.specs.Safe.{Each, Sizes, IsFrame, IsWaiting, IsActive, AreDoing}
 use Rattle.checked_runs.specs.Operands.{is_within, AreOwn, IsConstant, IsChild, HasChild, HasOperands}
 use Rattle.checked_runs.specs.Laws.{OperandsAreThere}
 use Rattle.checked_runs.proofs.Rules.{both, IsSound, proto_sound}
-use Rattle.checked_runs.proofs.Places.{Stands, stands_at, goes_on, leads, leads_on}
+use Rattle.checked_runs.proofs.Places.{Stands, stands_at, goes_on, leads, leads_on, leads_back}
 use Rattle.checked_runs.proofs.Constants.{constant_found}
 use Rattle.checked_runs.proofs.Children.{child_there}
 
@@ -75,6 +75,10 @@ module _ (chunk : ChunkOf) (n : ℕ) (p : ProtoOf) (place : ℕ) (insn : Insn) (
     jump_ahead None e f = tt
     jump_ahead (Some by) e f = leads_on chunk n p place insn next s at by e f
 
+    jump_behind : (o : Option ℤ) → jump_of insn ≡ o → goes_back insn ≡ true → MatchOption o (Unit {0}) (λ by. LeadsBack place by)
+    jump_behind None e f = tt
+    jump_behind (Some by) e f = leads_back chunk n p place insn next s at by e f
+
 pub operands_at : (chunk : ChunkOf) → IsWellFormed chunk → (z : Sizes) (p : ProtoOf) (f : Frame) → IsFrame chunk z p f → HasOperands chunk f
 operands_at chunk well z p f i =
     let place = i.stands in
@@ -100,6 +104,7 @@ operands_at chunk well z p f i =
       child = child_of_insn chunk n p s i.code insn at.rules.child;
       jump = jump_there chunk n p f.place insn place.line.next s at (jump_of insn) refl;
       jump_on = jump_ahead chunk n p f.place insn place.line.next s at (jump_of insn) refl;
+      jump_back = jump_behind chunk n p f.place insn place.line.next s at (jump_of insn) refl;
       behind = goes_on chunk n p f.place insn place.line.next s at;
     }
 

@@ -1,5 +1,5 @@
 -- Places of well-formed code: where it starts, what follows an instruction, and where jumps lead.
-use Rattle.std.proofs.Common.{◌≡◌, ◌⊎◌, inl, inr, refl, sym, ap, ◌∙◌, ℕ, ◌+◌, ℤ, pos, negsuc, Bool, true, false, ◌&&◌, ◌||◌, not, List, [], ◌∷◌, ◌++◌, length, Some, arith, nat_eq, append_assoc, subst}
+use Rattle.std.proofs.Common.{◌≡◌, ◌⊎◌, inl, inr, refl, sym, ap, ◌∙◌, ℕ, ◌+◌, ◌+ℤ◌, ℤ, pos, negsuc, Bool, true, false, ◌&&◌, ◌||◌, not, List, [], ◌∷◌, ◌++◌, length, Some, arith, nat_eq, append_assoc, subst}
 use Rattle.std.specs.Prelude.{if◌then◌else◌, is_some, int_le}
 use Rattle.std.specs.List.{list_any}
 use Rattle.std.proofs.lemmas.Bool.Decides.{nat_tests}
@@ -8,7 +8,7 @@ use Rattle.op_words.specs.declared.insn.Insn.{Insn}
 use Rattle.op_words.specs.Chunks.{ChunkOf, ProtoOf}
 use Rattle.machine_meaning.specs.Needs.{Line, lines, is_capture, is_fast, reads_top, bound_by, target, jump_of, goes_back}
 use Rattle.machine_meaning.specs.WellFormed.{Before, unless, passing, fall_faults, end_faults, at_place, landings, lands, may_land, turns_well, same_truth, is_end, is_closure_or_capture, at_start}
-use Rattle.checked_runs.specs.Places.{IsPlace, LeadsTo, LeadsOn}
+use Rattle.checked_runs.specs.Places.{IsPlace, LeadsTo, LeadsOn, LeadsBack}
 use Rattle.checked_runs.proofs.Lines.{IsRead, line_read, first_line}
 use Rattle.checked_runs.proofs.Rules.{both, KeepsRules, IsSound, rules_kept, passed}
 
@@ -139,6 +139,13 @@ on_words p place (pos k) to e =
     let same : to.target ≡ place + 1 + k = cc in record { words = k; is = refl; stands = subst (λ t. IsPlace p t) same to.stands }
 on_words p place (negsuc k) to e = absurd (grind (arith, ints))
 
+-- and one that goes back does not
+back_words : (p : ProtoOf) (place : ℕ) (by : ℤ) → LeadsTo p place by → int_le (target place by) (pos place) ≡ true → LeadsBack place by
+back_words p place (pos k) to e = absurd (grind (arith, ints))
+back_words p place (negsuc k) to e =
+    let is : pos (place + 1) +ℤ negsuc k ≡ pos to.target = to.is in
+    record { words = k; is = refl; within = omega (arith, ints, is) }
+
 -- ---- an instruction with what it keeps
 
 pub record Stands (chunk : ChunkOf) (n : ℕ) (p : ProtoOf) (place : ℕ) (insn : Insn) (next : ℕ) : Type 0 where
@@ -184,3 +191,9 @@ module _ (chunk : ChunkOf) (n : ℕ) (p : ProtoOf) (place : ℕ) (insn : Insn) (
         negated : (b : Bool) → not b ≡ true → b ≡ false
         negated true e = absurd cc
         negated false e = refl
+
+    pub leads_back : (by : ℤ) → jump_of insn ≡ Some by → goes_back insn ≡ true → LeadsBack place by
+    leads_back by is back =
+        let turns = (both (turns_well place insn (jump_of insn)) _ at.rules.turns).0 in
+        let same : same_truth (goes_back insn) (int_le (target place by) (pos place)) ≡ true = sym (ap (turns_well place insn) is) ∙ turns in
+        back_words p place by (leads by is) (sym (ap (λ b. same_truth b (int_le (target place by) (pos place))) back) ∙ same)

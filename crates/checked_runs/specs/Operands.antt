@@ -17,7 +17,7 @@ use Rattle.machine_meaning.specs.States.{Frame, Focus, Run, Charged, GiveAll, Jo
 use Rattle.machine_meaning.specs.Moves.{Step}
 use Rattle.machine_meaning.specs.Steps.{step}
 use Rattle.machine_meaning.specs.Runs.{loaded}
-use Rattle.checked_runs.specs.Places.{IsPlace, LeadsTo, LeadsOn}
+use Rattle.checked_runs.specs.Places.{IsPlace, LeadsTo, LeadsOn, LeadsBack}
 use Rattle.checked_runs.specs.Safe.{Each}
 
 -- each register of a range is the function's own
@@ -58,6 +58,7 @@ pub record HasOperands (chunk : ChunkOf) (f : Frame) : Type 0 where
   pub child : HasChild chunk code insn
   pub jump : MatchOption (jump_of insn) (Unit {0}) (λ by. LeadsTo code f.place by)
   pub jump_on : goes_back insn ≡ false → MatchOption (jump_of insn) (Unit {0}) (λ by. LeadsOn code f.place by)
+  pub jump_back : goes_back insn ≡ true → MatchOption (jump_of insn) (Unit {0}) (λ by. LeadsBack f.place by)
   pub behind : is_end insn ≡ false → is_closure_or_capture insn ≡ false → IsPlace code next
 
 -- the innermost function is at its instruction, or is given what this waits for

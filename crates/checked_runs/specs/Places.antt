@@ -1,5 +1,5 @@
 -- The places of a function where code may stand.
-use Rattle.std.specs.Prelude.{◌≡◌, ℕ, ◌+◌, ℤ, pos, ◌+ℤ◌, false, List, ◌∷◌, ◌++◌}
+use Rattle.std.specs.Prelude.{◌≡◌, ℕ, ◌+◌, ◌≤◌, ℤ, pos, negsuc, ◌+ℤ◌, false, List, ◌∷◌, ◌++◌}
 use Rattle.op_words.specs.Chunks.{ProtoOf}
 use Rattle.machine_meaning.specs.Needs.{Line, lines, is_capture}
 
@@ -23,3 +23,9 @@ pub record LeadsOn (p : ProtoOf) (place : ℕ) (by : ℤ) : Type 0 where
   pub words : ℕ
   pub is : by ≡ pos words
   pub stands : IsPlace p (place + 1 + words)
+
+-- or it stands no further on
+pub record LeadsBack (place : ℕ) (by : ℤ) : Type 0 where
+  pub words : ℕ
+  pub is : by ≡ negsuc words
+  pub within : words ≤ place
