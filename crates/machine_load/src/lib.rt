@@ -1,0 +1,4 @@
+//! A checked chunk is loaded: the machine of a script as it stands before its first instruction.
+#![tactic(auto)]
+
+mod beginning;
