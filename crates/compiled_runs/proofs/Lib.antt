@@ -10,6 +10,7 @@ pub mod NodeLevels
 pub mod Nodes
 pub mod Leaves
 pub mod Turns
+pub mod Leaps
 pub mod Following
 pub mod Lists
 pub mod Parentheses
