@@ -10,6 +10,7 @@ pub mod NodeLevels
 pub mod Nodes
 pub mod Leaves
 pub mod Turns
+pub mod Leaps
 pub mod Following
 pub mod Lists
 pub mod Parentheses
@@ -39,7 +40,9 @@ pub mod NumericRuns
 pub mod NumericLoops
 pub mod Compounds
 pub mod NamedUpdates
+pub mod RepeatBodies
 pub mod Repeats
+pub mod EarlyEnds
 pub mod BuiltStatements
 pub mod BuiltParts
 pub mod BuiltTrees
