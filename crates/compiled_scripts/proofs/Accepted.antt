@@ -1,5 +1,5 @@
 -- Accepted scripts.
-use Rattle.std.proofs.Common.{rules, ◌≡◌, ℕ, true, List, [], refl, sym, ap, ◌∙◌, subst}
+use Rattle.std.proofs.Common.{rules, ◌≡◌, List, [], ap, ◌∙◌}
 use Rattle.syntax_tree.specs.declared.tree.ExprKind.TheFolds as folds
 use Rattle.syntax_tree.specs.declared.tree.ExprKind.TheViews as views
 use Rattle.syntax_tree.specs.declared.tree.FuncBody.{out-FuncBody}
@@ -21,4 +21,3 @@ parsed_accepted tokens tree b p is sound proper = record {
   sound = sound;
   proper = proper;
 }
-

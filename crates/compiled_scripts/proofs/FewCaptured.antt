@@ -1,9 +1,8 @@
 -- In a script that breaks no rule no function captures more than 200 variables: by induction over the tree.
-use Rattle.std.proofs.Common.{rules, ◌≡◌, ℕ, zero, suc, ◌+◌, ◌≤◌, Bool, true, false, List, [], ◌∷◌, ◌++◌, length, map, drop, Option, Some, None, refl, sym, ap, ◌∙◌, subst, arith}
+use Rattle.std.proofs.Common.{◌≡◌, ℕ, zero, suc, ◌+◌, ◌≤◌, Bool, true, false, List, [], ◌∷◌, ◌++◌, length, map, drop, Some, None, refl, sym, ap, ◌∙◌, subst, arith}
 use Rattle.std.specs.Prelude.{slice_get, slice_set, unwrap_or}
 use Rattle.byte_text.specs.declared.fixed.StrId.{StrId}
 use Rattle.syntax_tree.specs.declared.notes.Capture.{Capture}
-use Rattle.syntax_tree.specs.declared.notes.Leap.{Leap}
 use Rattle.syntax_tree.specs.declared.notes.Note.{Note}
 use Rattle.syntax_tree.specs.declared.tree.Arm.{Arm}
 use Rattle.syntax_tree.specs.declared.tree.Expr.{Expr}

@@ -1,7 +1,6 @@
 -- The code of a function has a word at least for each constant and each child that it names: by induction over the tree.
-use Rattle.std.proofs.Common.{◌≡◌, ℕ, ℤ, zero, suc, ◌+◌, ◌-◌, Bool, true, false, not, nat_eq, if◌then◌else◌, List, [], ◌∷◌, ◌++◌, length, take, drop, map, Option, Some, None, refl, sym, ap, ◌∙◌, subst, append_assoc, ◌≤◌, arith, length-append}
+use Rattle.std.proofs.Common.{ℕ, ℤ, zero, suc, ◌+◌, ◌-◌, Bool, true, false, not, nat_eq, if◌then◌else◌, List, [], ◌∷◌, ◌++◌, length, drop, Option, Some, None, ◌≤◌, arith, length-append}
 use Rattle.std.specs.Prelude.{pos}
-use Rattle.std.proofs.lemmas.List.{append-nil}
 use Rattle.byte_text.specs.declared.fixed.StrId.{StrId}
 use Rattle.op_words.specs.declared.chunk.Const.{Const}
 use Rattle.op_words.specs.declared.chunk.Const.TheVariants as constant
@@ -18,17 +17,6 @@ use Rattle.syntax_tree.specs.declared.tree.BinOp.{BinOp}
 use Rattle.syntax_tree.specs.declared.tree.BinOp.TheVariants as op
 use Rattle.syntax_tree.specs.declared.tree.UnOp.{UnOp}
 use Rattle.syntax_tree.specs.declared.tree.UnOp.TheVariants as unary
-use Rattle.syntax_tree.specs.declared.tree.ExprKind.{ExprKind}
-use Rattle.syntax_tree.specs.declared.tree.FieldKind.{FieldKind}
-use Rattle.syntax_tree.specs.declared.tree.StatKind.{StatKind}
-use Rattle.syntax_tree.specs.declared.tree.Arm.{Arm}
-use Rattle.syntax_tree.specs.declared.tree.Expr.{Expr}
-use Rattle.syntax_tree.specs.declared.tree.ExprArm.{ExprArm}
-use Rattle.syntax_tree.specs.declared.tree.Field.{Field}
-use Rattle.syntax_tree.specs.declared.tree.FuncBody.{FuncBody}
-use Rattle.syntax_tree.specs.declared.tree.Stat.{Stat}
-use Rattle.syntax_tree.specs.declared.tree.ExprKind.TheOpen as level
-use Rattle.syntax_tree.specs.declared.tree.ExprKind.TheFolds as folds
 use Rattle.emit_expr.specs.declared.draft.Emitter.{Emitter}
 use Rattle.emit_expr.specs.declared.draft.Prototype.{Prototype}
 use Rattle.emit_expr.specs.declared.draft.Loop.{Loop}
@@ -43,9 +31,7 @@ use Rattle.node_code.specs.Nodes.{ExprCode, StatCode, ArmCode, ChoiceCode, FuncC
 use Rattle.node_code.specs.Lists as lists
 use Rattle.node_code.specs.Conditions as conditions
 use Rattle.node_code.specs.Code as code
-use Rattle.emit_laws.specs.Induction as induction
 use Rattle.link_laws.proofs.Items.{words_insn}
-use Rattle.emit_laws.specs.Induction.{With}
 
 -- ---- what is emitted so far
 
@@ -465,4 +451,3 @@ module _ (b : Bindings) where
       let last : Emitter = names.captures b (names.upvalues_at b done.draft.func) child in
       let taken : Thin d last = captures_good b (names.upvalues_at b done.draft.func) d child with_it in
       prototype_thin (puts.done params vararg done.draft) d last taken (done_thin params vararg done grown)
-

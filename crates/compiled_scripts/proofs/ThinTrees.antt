@@ -1,23 +1,6 @@
 -- The code of each function of a script has a word at least for each constant and each child that it names: by induction over the tree.
-use Rattle.std.proofs.Common.{◌≡◌, ℕ, ℤ, zero, suc, ◌+◌, ◌-◌, Bool, true, false, not, nat_eq, if◌then◌else◌, List, [], ◌∷◌, ◌++◌, length, take, drop, map, Option, Some, None, refl, sym, ap, ◌∙◌, subst, append_assoc, ◌≤◌, arith, length-append}
-use Rattle.std.specs.Prelude.{pos}
-use Rattle.std.proofs.lemmas.List.{append-nil}
-use Rattle.byte_text.specs.declared.fixed.StrId.{StrId}
-use Rattle.op_words.specs.declared.chunk.Const.{Const}
-use Rattle.op_words.specs.declared.chunk.Const.TheVariants as constant
-use Rattle.op_words.specs.declared.insn.Insn.{Insn}
-use Rattle.op_words.specs.declared.insn.Insn.TheVariants as i
-use Rattle.op_words.specs.Encoding.{encoded}
-use Rattle.code_link.specs.declared.item.Item.{Item}
-use Rattle.code_link.specs.declared.item.Item.TheVariants as item
-use Rattle.code_link.specs.Labels.{word_count}
+use Rattle.std.proofs.Common.{ℕ, ◌+◌, true, false, List, [], ◌∷◌, length, map, Some, None, sym, subst, arith}
 use Rattle.syntax_tree.specs.declared.bindings.Bindings.{Bindings}
-use Rattle.syntax_tree.specs.declared.bindings.Bound.{Bound}
-use Rattle.syntax_tree.specs.declared.bindings.Bound.TheVariants as bound
-use Rattle.syntax_tree.specs.declared.tree.BinOp.{BinOp}
-use Rattle.syntax_tree.specs.declared.tree.BinOp.TheVariants as op
-use Rattle.syntax_tree.specs.declared.tree.UnOp.{UnOp}
-use Rattle.syntax_tree.specs.declared.tree.UnOp.TheVariants as unary
 use Rattle.syntax_tree.specs.declared.tree.ExprKind.{ExprKind}
 use Rattle.syntax_tree.specs.declared.tree.FieldKind.{FieldKind}
 use Rattle.syntax_tree.specs.declared.tree.StatKind.{StatKind}
@@ -29,25 +12,13 @@ use Rattle.syntax_tree.specs.declared.tree.FuncBody.{FuncBody}
 use Rattle.syntax_tree.specs.declared.tree.Stat.{Stat}
 use Rattle.syntax_tree.specs.declared.tree.ExprKind.TheOpen as level
 use Rattle.syntax_tree.specs.declared.tree.ExprKind.TheFolds as folds
-use Rattle.emit_expr.specs.declared.draft.Emitter.{Emitter}
-use Rattle.emit_expr.specs.declared.draft.Prototype.{Prototype}
-use Rattle.emit_expr.specs.declared.draft.Loop.{Loop}
-use Rattle.emit_expr.specs.declared.draft.Mark.{Mark}
-use Rattle.emit_expr.specs.Puts as puts
-use Rattle.emit_expr.specs.Puts.{Step, label, mark_at, start, with_constant, with_string, declare, forget, with_draft, with_prototype, with_child}
-use Rattle.emit_expr.specs.Puts.{put as put_item}
+use Rattle.emit_expr.specs.Puts.{start}
 use Rattle.emit_expr.specs.Names as names
 use Rattle.emit_expr.specs.Operators as operators
-use Rattle.node_code.specs.Nodes as nodes
-use Rattle.node_code.specs.Nodes.{ExprCode, StatCode, ArmCode, ChoiceCode, FuncCode, Target, NoTarget, Named}
-use Rattle.node_code.specs.Lists as lists
-use Rattle.node_code.specs.Conditions as conditions
+use Rattle.node_code.specs.Nodes.{ExprCode, StatCode, ArmCode, ChoiceCode, FuncCode}
 use Rattle.node_code.specs.Code as code
 use Rattle.emit_laws.specs.Induction as induction
-use Rattle.link_laws.proofs.Items.{words_insn}
 use Rattle.emit_laws.specs.Induction.{With}
-
-use Rattle.compiled_scripts.proofs.ThinSteps as steps
 use Rattle.compiled_scripts.proofs.ThinSteps.{AreThin, Thin, Go, Good, GoodStat, AllGood, AllGoodStats, AllGoodArms, AllGoodChoices, put, declared, all_declared, list_good, each_good, exact_good, assigns_good, close_good, jump_on_good, single_good, many_good, number_good, text_good, binary_good, unary_code_good, choices_good, named_good, block_good, while_good, repeat_good, num_for_good, arms_good, update_good, func_good}
 
 -- ---- the tree
@@ -204,7 +175,6 @@ module _ (b : Bindings) where
   steps_good : induction.Steps kind_ok (λ _. Unit {0}) stat_kind_ok arm_ok expr_ok choice_ok (λ _. Unit {0}) func_ok stat_ok
   steps_good =
       record { kind = kind_step; field_kind = λ _. tt; stat_kind = stat_kind_step; arm = arm_step; expr = expr_step; expr_arm = choice_step; field = λ _. tt; func = func_step; stat = stat_step }
-
 
 start_thin : Thin 0 start
 start_thin = record { constants = omega arith; children = omega arith; protos = tt }
