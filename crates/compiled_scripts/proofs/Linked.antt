@@ -15,14 +15,12 @@ use Rattle.code_link.specs.declared.item.Item.TheVariants as item
 use Rattle.emit_expr.specs.declared.draft.Emitter.{Emitter}
 use Rattle.emit_expr.specs.declared.draft.Prototype.{Prototype}
 use Rattle.emit_expr.specs.Puts.{start}
-use Rattle.emit_expr.specs.Names.{upvalues_at}
 use Rattle.node_code.specs.Code.{script_code}
 use Rattle.scope_laws.specs.Sight.{Sight, Part, function, Sees}
 use Rattle.function_registers.specs.declared.walk.FuncRegisters.{FuncRegisters}
 use Rattle.function_registers.specs.Registers.{all_entries, registers_of}
 use Rattle.register_laws.proofs.Rising.{registers_found}
-use Rattle.code_link.specs.Labels.{IsLinkable}
-use Rattle.link_laws.specs.Laws.{AreLinkable}
+use Rattle.count_laws.specs.Laws.{HasFew, HaveFew}
 use Rattle.operand_laws.specs.Fitting as operands
 use Rattle.operand_laws.specs.Laws.{IsFitting, AreFitting}
 use Rattle.script_compiler.specs.Compiled as compiled
@@ -32,8 +30,6 @@ use Rattle.compiled_runs.proofs.Reading.{AllFit}
 use Rattle.compiled_runs.proofs.Functions.{finished, its_prototype}
 use Rattle.compiled_runs.proofs.Bodies.{func_protos}
 use Rattle.compiled_runs.proofs.Chunks.{Linked, Chunk}
-use Rattle.compiled_scripts.proofs.ThinSteps.{IsThin, AreThin}
-use Rattle.compiled_scripts.proofs.ThinTrees.{script_thin}
 
 -- ---- lists
 
@@ -58,15 +54,10 @@ fitting_there [] h n p e = some_none e
 fitting_there (x ∷ ps) h zero p e = subst IsFitting (same_some e) h.0
 fitting_there (x ∷ ps) h (suc n) p e = fitting_there ps h.1 n p e
 
-thin_there : (ps : List Prototype) → AreThin ps → (n : ℕ) (p : Prototype) → slice_get ps n ≡ Some p → IsThin p
-thin_there [] h n p e = some_none e
-thin_there (x ∷ ps) h zero p e = subst IsThin (same_some e) h.0
-thin_there (x ∷ ps) h (suc n) p e = thin_there ps h.1 n p e
-
-linkable_there : (ps : List Prototype) → AreLinkable ps → (n : ℕ) (p : Prototype) → slice_get ps n ≡ Some p → IsLinkable p.items
-linkable_there [] h n p e = some_none e
-linkable_there (x ∷ ps) h zero p e = subst (λ (y : Prototype). IsLinkable y.items) (same_some e) h.0
-linkable_there (x ∷ ps) h (suc n) p e = linkable_there ps h.1 n p e
+few_there : (b : Bindings) (ps : List Prototype) → HaveFew b ps → (n : ℕ) (p : Prototype) → slice_get ps n ≡ Some p → HasFew b p
+few_there b [] h n p e = some_none e
+few_there b (x ∷ ps) h zero p e = subst (HasFew b) (same_some e) h.0
+few_there b (x ∷ ps) h (suc n) p e = few_there b ps h.1 n p e
 
 fields_fit : (count : ℕ) (items : List Item) → operands.AllFit count items → AllFit items
 fields_fit count [] h = tt
@@ -83,7 +74,7 @@ text_there texts (y ∷ xs) (suc i) x e = text_there texts xs i x e
 -- ---- a script
 
 module _ (main : FuncBody) (b : Bindings) (texts : List (List ℕ)) (chunk : ChunkOf) (fitting : AreFitting (script_code b (numbered main).main).protos)
-    (linkable : AreLinkable (script_code b (numbered main).main).protos) (few_captured : (func : ℕ) → length (upvalues_at b func) ≤ 200)
+    (counts : HaveFew b (script_code b (numbered main).main).protos)
     (few_registers : (f : FuncBody) (s : Sight) (after : List Part) → Sees (numbered main).main s (function f ∷ after) → need f ≤ 250)
     (c : IsCompiled (numbered main) b texts chunk) where
   abbrev tree : Tree
@@ -98,27 +89,25 @@ module _ (main : FuncBody) (b : Bindings) (texts : List (List ℕ)) (chunk : Chu
   there : (n : ℕ) (q : Prototype) → slice_get whole.protos n ≡ Some q → LinkedThere (all_entries tree.main) b q chunk.protos n
   there n q e = linked_there (all_entries tree.main) b whole.protos chunk.protos c.protos n q e
 
-  linked : (q : Prototype) (proto : ProtoOf) → IsFitting q → IsLinkable q.items → IsThin q → IsLinkedProto (all_entries tree.main) b q proto
-      → Linked b q proto
-  linked q proto f can thin l =
-      let few = f.few_params in
-      let fewer = few_captured q.func in
+  linked : (q : Prototype) (proto : ProtoOf) → IsFitting q → HasFew b q → IsLinkedProto (all_entries tree.main) b q proto → Linked b q proto
+  linked q proto f few l =
+      let few_params = f.few_params in
       let params = l.params in
+      let captured = few.upvalues in
       let upvalues = l.upvalues in
-      let words = can.short in
-      let constants = thin.0 in
-      let children = thin.1 in
+      let constants = few.constants in
+      let children = few.children in
       record {
-        params = omega (arith, few, params);
+        params = omega (arith, few_params, params);
         vararg = l.vararg;
-        upvalues = omega (arith, fewer, upvalues);
+        upvalues = omega (arith, captured, upvalues);
         fits = fields_fit (max (need f.func) 1) q.items f.fits;
         code = l.code;
         constants = l.consts;
         children = l.children;
-        few_constants = omega (arith, words, constants);
-        few_children = omega (arith, words, children);
-        few_upvalues = omega (arith, fewer);
+        few_constants = omega (arith, constants);
+        few_children = omega (arith, children);
+        few_upvalues = omega (arith, captured);
       }
 
   enough : (n : ℕ) (q : Prototype) (proto : ProtoOf) (f : FuncBody) (s : Sight) (after : List Part) → slice_get whole.protos n ≡ Some q
@@ -141,18 +130,12 @@ module _ (main : FuncBody) (b : Bindings) (texts : List (List ℕ)) (chunk : Chu
       let at = c.main in
       omega (arith, count, few, at)
 
-  linked_at : (n : ℕ) (q : Prototype) → slice_get whole.protos n ≡ Some q → (t : LinkedThere (all_entries tree.main) b q chunk.protos n)
-      → Linked b q t.proto
-  linked_at n q e t =
-      linked q t.proto (fitting_there whole.protos fitting n q e) (linkable_there whole.protos linkable n q e)
-      (thin_there whole.protos (script_thin b tree.main) n q e) t.linked
-
   -- so it is a chunk of the functions that were emitted
   pub is_chunk : Chunk chunk b whole tree.main
   is_chunk = record {
     each = λ n q e.
         let t = there n q e in
-        record { proto = t.proto; found = t.found; linked = linked_at n q e t };
+        record { proto = t.proto; found = t.found; linked = linked q t.proto (fitting_there whole.protos fitting n q e) (few_there b whole.protos counts n q e) t.linked };
     registers = enough;
     few = c.few_protos;
     main_last = last;

@@ -1,5 +1,5 @@
 -- Each run of an accepted script all of whose nodes are built is one of its chunk, and the other way round.
-use Rattle.std.proofs.Common.{◌≡◌, ℕ, ◌≤◌, true, false, List, [], ◌∷◌, length, map, refl, sym, subst}
+use Rattle.std.proofs.Common.{◌≡◌, ℕ, ◌≤◌, true, false, List, [], ◌∷◌, map, refl, sym, subst}
 use Rattle.byte_text.specs.declared.fixed.StrId.{StrId}
 use Rattle.syntax_tree.specs.declared.bindings.Bindings.{Bindings}
 use Rattle.syntax_tree.specs.declared.tree.Expr.{Expr}
@@ -17,12 +17,11 @@ use Rattle.value_model.specs.Fresh.{HostFields}
 use Rattle.source_meaning.specs.States.{Environment}
 use Rattle.op_words.specs.Chunks.{ChunkOf, ProtoOf}
 use Rattle.emit_expr.specs.declared.draft.Emitter.{Emitter}
-use Rattle.emit_expr.specs.Names.{upvalues_at}
 use Rattle.node_code.specs.Code.{script_code}
 use Rattle.scope_laws.specs.Sight.{Sight, Part, function, Sees}
 use Rattle.link_laws.proofs.Walks.{left, right}
-use Rattle.link_laws.specs.Laws.{AreLinkable}
-use Rattle.link_laws.proofs.Whole.{code_links}
+use Rattle.count_laws.specs.Laws.{HaveFew}
+use Rattle.count_laws.proofs.Counts.{counts_are_few}
 use Rattle.operand_laws.specs.Laws.{AreFitting}
 use Rattle.operand_laws.proofs.Whole.{operands_fit}
 use Rattle.script_compiler.specs.Compiled.{IsCompiled}
@@ -42,7 +41,6 @@ use Rattle.compiled_runs.proofs.BuiltTrees as trees
 use Rattle.compiled_runs.proofs.Trees.{script_in}
 use Rattle.compiled_scripts.specs.Laws.{RunAlike}
 use Rattle.compiled_scripts.proofs.Clear.{IsClear, inner_clear, func_rules, few_registers}
-use Rattle.compiled_scripts.proofs.FewCaptured.{few_captured}
 use Rattle.compiled_scripts.proofs.LoopWords.{ends_in_loop}
 use Rattle.compiled_scripts.proofs.Linked as linked
 
@@ -81,11 +79,8 @@ module _ (main : FuncBody) (b : Bindings) (texts : List (List ℕ)) (chunk : Chu
   pub fitting : AreFitting whole.protos
   fitting = subst (λ x. AreFitting (script_code x tree.main).protos) (sym is) (operands_fit main proper sound)
 
-  pub linkable : AreLinkable whole.protos
-  linkable = subst (λ x. AreLinkable (script_code x tree.main).protos) (sym is) (code_links main sound c.few_nodes)
-
-  pub few_variables : (func : ℕ) → length (upvalues_at b func) ≤ 200
-  few_variables func = subst (λ x. length (upvalues_at x func) ≤ 200) (sym is) (few_captured tree (left _ _ sound) func)
+  pub counts : HaveFew b whole.protos
+  counts = subst (λ x. HaveFew x (script_code x tree.main).protos) (sym is) (counts_are_few main sound c.few_nodes)
 
   pub few : (f : FuncBody) (s : Sight) (after : List Part) → Sees tree.main s (function f ∷ after) → need f ≤ 250
   few f s after sees = few_registers b f (each_clear f s after sees).1
@@ -95,12 +90,12 @@ module _ (main : FuncBody) (b : Bindings) (texts : List (List ℕ)) (chunk : Chu
     main = main;
     is = is;
     few_locals = c.few_locals;
-    strings = linked.strings main b texts chunk fitting linkable few_variables few c;
+    strings = linked.strings main b texts chunk fitting counts few c;
     few_strings = c.few_strings;
   }
 
   abbrev pub is_chunk : Chunk p.chunk b whole tree.main
-  is_chunk = linked.is_chunk main b texts chunk fitting linkable few_variables few c
+  is_chunk = linked.is_chunk main b texts chunk fitting counts few c
 
   abbrev pub code_is : (f : FuncBody) (n : ℕ) (around : Environment) (ups : List StrId) (proto : ProtoOf) → CodeOf b whole tree.main f around ups proto
       → p.IsCode f n around ups proto

@@ -19,15 +19,18 @@ use Rattle.node_code.specs.Nodes.{ExprCode, StatCode, ArmCode, ChoiceCode, FuncC
 use Rattle.node_code.specs.Code as code
 use Rattle.emit_laws.specs.Induction as induction
 use Rattle.emit_laws.specs.Induction.{With}
-use Rattle.compiled_scripts.proofs.ThinSteps.{AreThin, Thin, Go, Good, GoodStat, AllGood, AllGoodStats, AllGoodArms, AllGoodChoices, put, declared, all_declared, list_good, each_good, exact_good, assigns_good, close_good, jump_on_good, single_good, many_good, number_good, text_good, binary_good, unary_code_good, choices_good, named_good, block_good, while_good, repeat_good, num_for_good, arms_good, update_good, func_good}
+use Rattle.count_laws.proofs.ThinStates.{AreThin, Thin, put, declared, all_declared}
+use Rattle.count_laws.proofs.ThinSteps.{Go, Good, GoodStat, AllGood, AllGoodStats, AllGoodArms, AllGoodChoices, list_good, each_good, exact_good, assigns_good, close_good, jump_on_good, single_good, many_good, number_good, text_good, binary_good, unary_code_good, choices_good, named_good, block_good, while_good, repeat_good, num_for_good, arms_good, update_good, func_good}
 
 -- ---- the tree
 module _ (b : Bindings) where
   abbrev kind_fold : ExprKind → ℕ → ExprCode
-  kind_fold = let s = code.steps b in folds.fold-ExprKind (ℕ → ExprCode) (Unit {0}) (ℕ → StatCode) ArmCode ExprCode ChoiceCode (Unit {0}) FuncCode StatCode s.kind s.field_kind s.stat_kind s.arm s.expr s.expr_arm s.field s.func s.stat
+  kind_fold = let s = code.steps b in folds.fold-ExprKind (ℕ → ExprCode) (Unit {0}) (ℕ → StatCode) ArmCode ExprCode ChoiceCode
+      (Unit {0}) FuncCode StatCode s.kind s.field_kind s.stat_kind s.arm s.expr s.expr_arm s.field s.func s.stat
 
   abbrev stat_kind_fold : StatKind → ℕ → StatCode
-  stat_kind_fold = let s = code.steps b in folds.fold-StatKind (ℕ → ExprCode) (Unit {0}) (ℕ → StatCode) ArmCode ExprCode ChoiceCode (Unit {0}) FuncCode StatCode s.kind s.field_kind s.stat_kind s.arm s.expr s.expr_arm s.field s.func s.stat
+  stat_kind_fold = let s = code.steps b in folds.fold-StatKind (ℕ → ExprCode) (Unit {0}) (ℕ → StatCode) ArmCode ExprCode ChoiceCode
+      (Unit {0}) FuncCode StatCode s.kind s.field_kind s.stat_kind s.arm s.expr s.expr_arm s.field s.func s.stat
 
   abbrev kind_ok : ExprKind → Type 0
   kind_ok k = (id : ℕ) → Good (kind_fold k id)
@@ -74,16 +77,26 @@ module _ (b : Bindings) where
 
   -- a level with the codes of its parts
   abbrev kind_codes : kind_with → code.Kind
-  kind_codes y = folds.map-ExprKind ExprKind FieldKind StatKind Arm Expr ExprArm Field FuncBody Stat (ℕ → ExprCode) (Unit {0}) (ℕ → StatCode) ArmCode ExprCode ChoiceCode (Unit {0}) FuncCode StatCode kind_fold (λ _. tt) stat_kind_fold (code.arm_code b) (code.expr_code b) (code.choice_code b) (λ _. tt) (code.func_code b) (code.stat_code b) (induction.kind_parts kind_ok (λ _. Unit {0}) stat_kind_ok arm_ok expr_ok choice_ok (λ _. Unit {0}) func_ok stat_ok y)
+  kind_codes y = folds.map-ExprKind ExprKind FieldKind StatKind Arm Expr ExprArm Field FuncBody Stat (ℕ → ExprCode) (Unit {0}) (ℕ
+      → StatCode) ArmCode ExprCode ChoiceCode (Unit {0}) FuncCode StatCode kind_fold (λ _. tt) stat_kind_fold (code.arm_code b) (code.expr_code b)
+      (code.choice_code b) (λ _. tt) (code.func_code b) (code.stat_code b) (induction.kind_parts kind_ok
+      (λ _. Unit {0}) stat_kind_ok arm_ok expr_ok choice_ok (λ _. Unit {0}) func_ok stat_ok y)
 
   abbrev stat_kind_codes : stat_kind_with → code.StatLevel
-  stat_kind_codes y = folds.map-StatKind ExprKind FieldKind StatKind Arm Expr ExprArm Field FuncBody Stat (ℕ → ExprCode) (Unit {0}) (ℕ → StatCode) ArmCode ExprCode ChoiceCode (Unit {0}) FuncCode StatCode kind_fold (λ _. tt) stat_kind_fold (code.arm_code b) (code.expr_code b) (code.choice_code b) (λ _. tt) (code.func_code b) (code.stat_code b) (induction.stat_kind_parts kind_ok (λ _. Unit {0}) stat_kind_ok arm_ok expr_ok choice_ok (λ _. Unit {0}) func_ok stat_ok y)
+  stat_kind_codes y = folds.map-StatKind ExprKind FieldKind StatKind Arm Expr ExprArm Field FuncBody Stat (ℕ → ExprCode) (Unit {0}) (ℕ
+      → StatCode) ArmCode ExprCode ChoiceCode (Unit {0}) FuncCode StatCode kind_fold (λ _. tt) stat_kind_fold (code.arm_code b) (code.expr_code b)
+      (code.choice_code b) (λ _. tt) (code.func_code b) (code.stat_code b) (induction.stat_kind_parts kind_ok
+      (λ _. Unit {0}) stat_kind_ok arm_ok expr_ok choice_ok (λ _. Unit {0}) func_ok stat_ok y)
 
   kind_good : (y : kind_with) (id : ℕ) → Good (code.kind_code b (kind_codes y) id)
   kind_good level.Nil id = single_good id _ (λ to d d' p. put _ d d' p)
   kind_good level.True id = single_good id _ (λ to d d' p. put _ d d' p)
   kind_good level.False id = single_good id _ (λ to d d' p. put _ d d' p)
-  kind_good (level.Num n) id = record { run = λ to results. number_good n to; jump = jump_on_good None (λ to results. operators.number_run n to) (number_good n) }
+  kind_good (level.Num n) id = record {
+    run = λ to results. number_good n to;
+    jump = jump_on_good None
+        (λ to results. operators.number_run n to) (number_good n);
+  }
   kind_good (level.Str t) id = single_good id _ (text_good t)
   kind_good level.Vararg id = many_good id _ (λ to results d d' p. put _ d d' p)
   kind_good (level.Name x) id = named_good b (names.bound_at b id) x id
@@ -112,16 +125,20 @@ module _ (b : Bindings) where
   stat_kind_good (level.Compound z x y) id free l d d' p = update_good b (code.expr_code b x.0).target z (code.expr_code b y.0) y.1 free d d' p
   stat_kind_good (level.StatKind::Call e) id free l d d' p = e.1.run free 1 d d' p
   stat_kind_good (level.Do ss) id free l d d' p = block_good b (map (code.stat_code b) (map (λ z. z.0) ss)) (all_stats ss) free l d d' p
-  stat_kind_good (level.While c ss) id free l d d' p = while_good b (code.expr_code b c.0) c.1 (map (code.stat_code b) (map (λ z. z.0) ss)) (all_stats ss) id free d d' p
-  stat_kind_good (level.Repeat ss c) id free l d d' p = repeat_good b (map (code.stat_code b) (map (λ z. z.0) ss)) (all_stats ss) (code.expr_code b c.0) c.1 id free d d' p
+  stat_kind_good (level.While c ss) id free l d d' p = while_good b (code.expr_code b c.0) c.1 (map (code.stat_code b) (map
+      (λ z. z.0) ss)) (all_stats ss) id free d d' p
+  stat_kind_good (level.Repeat ss c) id free l d d' p = repeat_good b (map (code.stat_code b) (map (λ z. z.0) ss)) (all_stats ss)
+      (code.expr_code b c.0) c.1 id free d d' p
   stat_kind_good (level.StatKind::If arms None) id free l d d' p =
       put _ d _ (arms_good b false (map (code.arm_code b) (map (λ z. z.0) arms)) (all_arms arms) id free l d d' p)
   stat_kind_good (level.StatKind::If arms (Some ss)) id free l d d' p =
-      put _ d _ (block_good b (map (code.stat_code b) (map (λ z. z.0) ss)) (all_stats ss) free l d _ (arms_good b true (map (code.arm_code b) (map (λ z. z.0) arms)) (all_arms arms) id free l d d' p))
+      put _ d _ (block_good b (map (code.stat_code b) (map (λ z. z.0) ss)) (all_stats ss) free l d _ (arms_good b true (map (code.arm_code b) (map
+      (λ z. z.0) arms)) (all_arms arms) id free l d d' p))
   stat_kind_good (level.NumFor t x y None ss) id free l d d' p =
       num_for_good b (code.expr_code b x.0) (code.expr_code b y.0) None (map (code.stat_code b) (map (λ z. z.0) ss)) x.1 y.1 tt (all_stats ss) id free d d' p
   stat_kind_good (level.NumFor t x y (Some e) ss) id free l d d' p =
-      num_for_good b (code.expr_code b x.0) (code.expr_code b y.0) (Some (code.expr_code b e.0)) (map (code.stat_code b) (map (λ z. z.0) ss)) x.1 y.1 e.1 (all_stats ss) id free d d' p
+      num_for_good b (code.expr_code b x.0) (code.expr_code b y.0) (Some (code.expr_code b e.0)) (map (code.stat_code b) (map
+      (λ z. z.0) ss)) x.1 y.1 e.1 (all_stats ss) id free d d' p
   stat_kind_good (level.GenFor ts es ss) id free l d d' p = p
   stat_kind_good (level.LocalFunction t f) id free l d d' p = f.1 free d _ (declared (names.first_at b id) free d d' p)
   stat_kind_good (level.Return es) id free l d d' p =
@@ -132,53 +149,86 @@ module _ (b : Bindings) where
   kind_step : (y : kind_with) → kind_ok (induction.kind_of kind_ok (λ _. Unit {0}) stat_kind_ok arm_ok expr_ok choice_ok (λ _. Unit {0}) func_ok stat_ok y)
   kind_step y id =
       let s = code.steps b in
-      let is = folds.fold-roll-ExprKind (ℕ → ExprCode) (Unit {0}) (ℕ → StatCode) ArmCode ExprCode ChoiceCode (Unit {0}) FuncCode StatCode s.kind s.field_kind s.stat_kind s.arm s.expr s.expr_arm s.field s.func s.stat (induction.kind_parts kind_ok (λ _. Unit {0}) stat_kind_ok arm_ok expr_ok choice_ok (λ _. Unit {0}) func_ok stat_ok y) in
+      let is = folds.fold-roll-ExprKind (ℕ → ExprCode) (Unit {0}) (ℕ → StatCode) ArmCode ExprCode ChoiceCode
+      (Unit {0}) FuncCode StatCode s.kind s.field_kind s.stat_kind s.arm s.expr s.expr_arm s.field s.func s.stat (induction.kind_parts kind_ok
+      (λ _. Unit {0}) stat_kind_ok arm_ok expr_ok choice_ok (λ _. Unit {0}) func_ok stat_ok y) in
       subst (λ (k : ℕ → ExprCode). Good (k id)) (sym is) (kind_good y id)
 
-  stat_kind_step : (y : stat_kind_with) → stat_kind_ok (induction.stat_kind_of kind_ok (λ _. Unit {0}) stat_kind_ok arm_ok expr_ok choice_ok (λ _. Unit {0}) func_ok stat_ok y)
+  stat_kind_step : (y : stat_kind_with) → stat_kind_ok (induction.stat_kind_of kind_ok (λ _. Unit {0}) stat_kind_ok arm_ok expr_ok choice_ok
+      (λ _. Unit {0}) func_ok stat_ok y)
   stat_kind_step y id =
       let s = code.steps b in
-      let is = folds.fold-roll-StatKind (ℕ → ExprCode) (Unit {0}) (ℕ → StatCode) ArmCode ExprCode ChoiceCode (Unit {0}) FuncCode StatCode s.kind s.field_kind s.stat_kind s.arm s.expr s.expr_arm s.field s.func s.stat (induction.stat_kind_parts kind_ok (λ _. Unit {0}) stat_kind_ok arm_ok expr_ok choice_ok (λ _. Unit {0}) func_ok stat_ok y) in
+      let is = folds.fold-roll-StatKind (ℕ → ExprCode) (Unit {0}) (ℕ → StatCode) ArmCode ExprCode ChoiceCode
+      (Unit {0}) FuncCode StatCode s.kind s.field_kind s.stat_kind s.arm s.expr s.expr_arm s.field s.func s.stat (induction.stat_kind_parts kind_ok
+      (λ _. Unit {0}) stat_kind_ok arm_ok expr_ok choice_ok (λ _. Unit {0}) func_ok stat_ok y) in
       subst (λ (k : ℕ → StatCode). GoodStat (k id)) (sym is) (stat_kind_good y id)
 
-  arm_step : (y : induction.arm_with kind_ok (λ _. Unit {0}) stat_kind_ok arm_ok expr_ok choice_ok (λ _. Unit {0}) func_ok stat_ok) → arm_ok (induction.arm_of kind_ok (λ _. Unit {0}) stat_kind_ok arm_ok expr_ok choice_ok (λ _. Unit {0}) func_ok stat_ok y)
+  arm_step : (y : induction.arm_with kind_ok (λ _. Unit {0}) stat_kind_ok arm_ok expr_ok choice_ok (λ _. Unit {0}) func_ok stat_ok)
+      → arm_ok (induction.arm_of kind_ok (λ _. Unit {0}) stat_kind_ok arm_ok expr_ok choice_ok (λ _. Unit {0}) func_ok stat_ok y)
   arm_step y =
       let s = code.steps b in
-      let is = folds.fold-roll-Arm (ℕ → ExprCode) (Unit {0}) (ℕ → StatCode) ArmCode ExprCode ChoiceCode (Unit {0}) FuncCode StatCode s.kind s.field_kind s.stat_kind s.arm s.expr s.expr_arm s.field s.func s.stat (induction.arm_parts kind_ok (λ _. Unit {0}) stat_kind_ok arm_ok expr_ok choice_ok (λ _. Unit {0}) func_ok stat_ok y) in
+      let is = folds.fold-roll-Arm (ℕ → ExprCode) (Unit {0}) (ℕ → StatCode) ArmCode ExprCode ChoiceCode
+      (Unit {0}) FuncCode StatCode s.kind s.field_kind s.stat_kind s.arm s.expr s.expr_arm s.field s.func s.stat (induction.arm_parts kind_ok
+      (λ _. Unit {0}) stat_kind_ok arm_ok expr_ok choice_ok (λ _. Unit {0}) func_ok stat_ok y) in
       subst (λ (a : ArmCode). Good a.cond × AllGoodStats a.body) (sym is) (y.cond.1, all_stats y.body)
 
-  expr_step : (y : induction.expr_with kind_ok (λ _. Unit {0}) stat_kind_ok arm_ok expr_ok choice_ok (λ _. Unit {0}) func_ok stat_ok) → expr_ok (induction.expr_of kind_ok (λ _. Unit {0}) stat_kind_ok arm_ok expr_ok choice_ok (λ _. Unit {0}) func_ok stat_ok y)
+  expr_step : (y : induction.expr_with kind_ok (λ _. Unit {0}) stat_kind_ok arm_ok expr_ok choice_ok (λ _. Unit {0}) func_ok stat_ok)
+      → expr_ok (induction.expr_of kind_ok (λ _. Unit {0}) stat_kind_ok arm_ok expr_ok choice_ok (λ _. Unit {0}) func_ok stat_ok y)
   expr_step y =
       let s = code.steps b in
-      let is = folds.fold-roll-Expr (ℕ → ExprCode) (Unit {0}) (ℕ → StatCode) ArmCode ExprCode ChoiceCode (Unit {0}) FuncCode StatCode s.kind s.field_kind s.stat_kind s.arm s.expr s.expr_arm s.field s.func s.stat (induction.expr_parts kind_ok (λ _. Unit {0}) stat_kind_ok arm_ok expr_ok choice_ok (λ _. Unit {0}) func_ok stat_ok y) in
+      let is = folds.fold-roll-Expr (ℕ → ExprCode) (Unit {0}) (ℕ → StatCode) ArmCode ExprCode ChoiceCode
+      (Unit {0}) FuncCode StatCode s.kind s.field_kind s.stat_kind s.arm s.expr s.expr_arm s.field s.func s.stat (induction.expr_parts kind_ok
+      (λ _. Unit {0}) stat_kind_ok arm_ok expr_ok choice_ok (λ _. Unit {0}) func_ok stat_ok y) in
       let kind = y.kind.1 y.id in
       subst (λ (e : ExprCode). Good e) (sym is) (record { run = kind.run; jump = kind.jump })
 
-  choice_step : (y : induction.expr_arm_with kind_ok (λ _. Unit {0}) stat_kind_ok arm_ok expr_ok choice_ok (λ _. Unit {0}) func_ok stat_ok) → choice_ok (induction.expr_arm_of kind_ok (λ _. Unit {0}) stat_kind_ok arm_ok expr_ok choice_ok (λ _. Unit {0}) func_ok stat_ok y)
+  choice_step : (y : induction.expr_arm_with kind_ok (λ _. Unit {0}) stat_kind_ok arm_ok expr_ok choice_ok (λ _. Unit {0}) func_ok stat_ok)
+      → choice_ok (induction.expr_arm_of kind_ok (λ _. Unit {0}) stat_kind_ok arm_ok expr_ok choice_ok (λ _. Unit {0}) func_ok stat_ok y)
   choice_step y =
       let s = code.steps b in
-      let is = folds.fold-roll-ExprArm (ℕ → ExprCode) (Unit {0}) (ℕ → StatCode) ArmCode ExprCode ChoiceCode (Unit {0}) FuncCode StatCode s.kind s.field_kind s.stat_kind s.arm s.expr s.expr_arm s.field s.func s.stat (induction.expr_arm_parts kind_ok (λ _. Unit {0}) stat_kind_ok arm_ok expr_ok choice_ok (λ _. Unit {0}) func_ok stat_ok y) in
+      let is = folds.fold-roll-ExprArm (ℕ → ExprCode) (Unit {0}) (ℕ → StatCode) ArmCode ExprCode ChoiceCode
+      (Unit {0}) FuncCode StatCode s.kind s.field_kind s.stat_kind s.arm s.expr s.expr_arm s.field s.func s.stat (induction.expr_arm_parts kind_ok
+      (λ _. Unit {0}) stat_kind_ok arm_ok expr_ok choice_ok (λ _. Unit {0}) func_ok stat_ok y) in
       subst (λ (a : ChoiceCode). Good a.cond × Good a.value) (sym is) (y.cond.1, y.value.1)
 
-  func_step : (y : induction.func_with kind_ok (λ _. Unit {0}) stat_kind_ok arm_ok expr_ok choice_ok (λ _. Unit {0}) func_ok stat_ok) → func_ok (induction.func_of kind_ok (λ _. Unit {0}) stat_kind_ok arm_ok expr_ok choice_ok (λ _. Unit {0}) func_ok stat_ok y)
+  func_step : (y : induction.func_with kind_ok (λ _. Unit {0}) stat_kind_ok arm_ok expr_ok choice_ok (λ _. Unit {0}) func_ok stat_ok)
+      → func_ok (induction.func_of kind_ok (λ _. Unit {0}) stat_kind_ok arm_ok expr_ok choice_ok (λ _. Unit {0}) func_ok stat_ok y)
   func_step y =
       let s = code.steps b in
-      let is = folds.fold-roll-FuncBody (ℕ → ExprCode) (Unit {0}) (ℕ → StatCode) ArmCode ExprCode ChoiceCode (Unit {0}) FuncCode StatCode s.kind s.field_kind s.stat_kind s.arm s.expr s.expr_arm s.field s.func s.stat (induction.func_parts kind_ok (λ _. Unit {0}) stat_kind_ok arm_ok expr_ok choice_ok (λ _. Unit {0}) func_ok stat_ok y) in
-      subst (λ (f : FuncCode). (to : ℕ) → Go (f to)) (sym is) (func_good b y.id (length y.params) y.vararg (map (code.stat_code b) (map (λ z. z.0) y.body)) (all_stats y.body))
+      let is = folds.fold-roll-FuncBody (ℕ → ExprCode) (Unit {0}) (ℕ → StatCode) ArmCode ExprCode ChoiceCode
+      (Unit {0}) FuncCode StatCode s.kind s.field_kind s.stat_kind s.arm s.expr s.expr_arm s.field s.func s.stat (induction.func_parts kind_ok
+      (λ _. Unit {0}) stat_kind_ok arm_ok expr_ok choice_ok (λ _. Unit {0}) func_ok stat_ok y) in
+      subst (λ (f : FuncCode). (to : ℕ) → Go (f to)) (sym is) (func_good b y.id (length y.params) y.vararg (map (code.stat_code b) (map
+      (λ z. z.0) y.body)) (all_stats y.body))
 
-  stat_step : (y : induction.stat_with kind_ok (λ _. Unit {0}) stat_kind_ok arm_ok expr_ok choice_ok (λ _. Unit {0}) func_ok stat_ok) → stat_ok (induction.stat_of kind_ok (λ _. Unit {0}) stat_kind_ok arm_ok expr_ok choice_ok (λ _. Unit {0}) func_ok stat_ok y)
+  stat_step : (y : induction.stat_with kind_ok (λ _. Unit {0}) stat_kind_ok arm_ok expr_ok choice_ok (λ _. Unit {0}) func_ok stat_ok)
+      → stat_ok (induction.stat_of kind_ok (λ _. Unit {0}) stat_kind_ok arm_ok expr_ok choice_ok (λ _. Unit {0}) func_ok stat_ok y)
   stat_step y =
       let s = code.steps b in
-      let is = folds.fold-roll-Stat (ℕ → ExprCode) (Unit {0}) (ℕ → StatCode) ArmCode ExprCode ChoiceCode (Unit {0}) FuncCode StatCode s.kind s.field_kind s.stat_kind s.arm s.expr s.expr_arm s.field s.func s.stat (induction.stat_parts kind_ok (λ _. Unit {0}) stat_kind_ok arm_ok expr_ok choice_ok (λ _. Unit {0}) func_ok stat_ok y) in
+      let is = folds.fold-roll-Stat (ℕ → ExprCode) (Unit {0}) (ℕ → StatCode) ArmCode ExprCode ChoiceCode
+      (Unit {0}) FuncCode StatCode s.kind s.field_kind s.stat_kind s.arm s.expr s.expr_arm s.field s.func s.stat (induction.stat_parts kind_ok
+      (λ _. Unit {0}) stat_kind_ok arm_ok expr_ok choice_ok (λ _. Unit {0}) func_ok stat_ok y) in
       subst (λ (e : StatCode). GoodStat e) (sym is) (y.kind.1 y.id)
 
   steps_good : induction.Steps kind_ok (λ _. Unit {0}) stat_kind_ok arm_ok expr_ok choice_ok (λ _. Unit {0}) func_ok stat_ok
   steps_good =
-      record { kind = kind_step; field_kind = λ _. tt; stat_kind = stat_kind_step; arm = arm_step; expr = expr_step; expr_arm = choice_step; field = λ _. tt; func = func_step; stat = stat_step }
+      record {
+        kind = kind_step;
+        field_kind = λ _. tt;
+        stat_kind = stat_kind_step;
+        arm = arm_step;
+        expr = expr_step;
+        expr_arm = choice_step;
+        field = λ _.
+            tt;
+        func = func_step;
+        stat = stat_step;
+      }
 
 start_thin : Thin 0 start
 start_thin = record { constants = omega arith; children = omega arith; protos = tt }
 
 -- of each function of a script
 pub script_thin : (b : Bindings) (main : FuncBody) → AreThin (code.script_code b main).protos
-script_thin b main = (induction.all_func (kind_ok b) (λ _. Unit {0}) (stat_kind_ok b) (arm_ok b) (expr_ok b) (choice_ok b) (λ _. Unit {0}) (func_ok b) (stat_ok b) (steps_good b) main 0 0 start start_thin).protos
+script_thin b main = (induction.all_func (kind_ok b) (λ _. Unit {0}) (stat_kind_ok b) (arm_ok b) (expr_ok b) (choice_ok b)
+    (λ _. Unit {0}) (func_ok b) (stat_ok b) (steps_good b) main 0 0 start start_thin).protos
