@@ -6,15 +6,14 @@ use Rattle.syntax_tree.specs.declared.bindings.Bindings.{Bindings}
 use Rattle.syntax_tree.specs.declared.bindings.Bound.{Bound}
 use Rattle.syntax_tree.specs.declared.bindings.Bound.TheVariants as bound
 use Rattle.syntax_tree.specs.declared.tree.Expr.{Expr}
-use Rattle.syntax_tree.specs.declared.tree.ExprKind.{out-ExprKind}
 use Rattle.syntax_tree.specs.declared.tree.Stat.{Stat}
 use Rattle.syntax_tree.specs.declared.tree.StatKind.{out-StatKind}
 use Rattle.syntax_tree.specs.declared.tree.ExprKind.TheOpen as level
-use Rattle.syntax_tree.specs.Need.{ExprNeed, StatNeed, need_expr, need_stat, list_need, targets_from, all_hold}
+use Rattle.syntax_tree.specs.Need.{StatNeed, need_expr, need_stat, list_need, targets_from, all_hold}
 use Rattle.machine_meaning.specs.States as machine
 use Rattle.op_words.specs.declared.insn.Insn.TheVariants as i
 use Rattle.emit_expr.specs.declared.draft.Emitter.{Emitter}
-use Rattle.emit_expr.specs.Puts.{insn, long, text_place, with_text}
+use Rattle.emit_expr.specs.Puts.{long, text_place, with_text}
 use Rattle.emit_expr.specs.Names.{bound_at, register_of, upvalue_of, assign_run}
 use Rattle.emit_laws.specs.Growing.{Grows}
 use Rattle.emit_laws.proofs.Grows as grows
@@ -22,18 +21,18 @@ use Rattle.emit_laws.proofs.Keeps as keeps
 use Rattle.node_code.specs.Nodes.{ExprCode, Target, Named}
 use Rattle.node_code.specs.Lists.{exact_run, assign_to, assign_all}
 use Rattle.node_code.specs.Code.{expr_code}
-use Rattle.scope_laws.specs.Sight.{Part, expr, stat}
+use Rattle.scope_laws.specs.Sight.{Part, expr}
 use Rattle.code_simulation.specs.Slots.{Slot}
 use Rattle.code_simulation.specs.Relation.{Setting}
 use Rattle.code_simulation.proofs.Along.{CallsGo, Here, Reads}
 use Rattle.code_simulation.proofs.Parts.{ListRuns}
 use Rattle.code_simulation.proofs.Assigns.{AreNames, Writes, to_local, to_upvalue, to_global, AllWrite, assign_same}
 use Rattle.compiled_runs.proofs.Places.{here, before, before_put, here_text}
-use Rattle.compiled_runs.proofs.Standing.{Script, At, kept, next_expr, Stands, local, upvalue, global, name_stands}
+use Rattle.compiled_runs.proofs.Standing.{Script, weak, At, kept, next_expr, Stands, local, upvalue, global, name_stands}
 use Rattle.compiled_runs.proofs.Constants.{name_known}
 use Rattle.compiled_runs.proofs.NodeLevels.{code_of, stat_code_of, stat_need_of}
 use Rattle.compiled_runs.proofs.Nodes.{Runs, In, Stand, reads}
-use Rattle.compiled_runs.proofs.Lists.{AllHold, codes, exact_alone}
+use Rattle.compiled_runs.proofs.Lists.{AllHold, exact_alone}
 use Rattle.compiled_runs.proofs.Statements.{Does, Performs, in_statement, plain_goes}
 
 length_map : {A B : Type 0} (f : A → B) (xs : List A) → length (map f xs) ≡ length xs
@@ -121,7 +120,7 @@ module _ (p : Setting) (most : ℕ) (calls : (i : ℕ) → i ≤ most → CallsG
         let inner = in_statement p most b whole script h r s (level.Assign ts es) ps l d is st.at refl (omega arith) refl in
         let begun : Stand p most b whole script h r (map expr es) l d d1 (list_need (map need_expr es)) =
         record {
-          at = behind_targets p most calls b whole script h r ts (map expr es) l d inner;
+          at = weak p most b whole script h r (map expr es) l d (behind_targets p most calls b whole script h r ts (map expr es) l d inner);
           inside = s1;
           func = st.func;
           room = omega (arith, room, needed);

@@ -1,5 +1,5 @@
 -- Blocks: statements in order, and what their end closes and forgets.
-use Rattle.std.proofs.Common.{◌≡◌, ℕ, zero, suc, ◌+◌, ◌≤◌, Bool, true, false, ◌||◌, List, [], ◌∷◌, ◌++◌, length, map, take, drop, Option, Some, None, refl, sym, ap, ◌∙◌, arith, subst, append-nil, length-append, if◌then◌else◌}
+use Rattle.std.proofs.Common.{◌≡◌, ℕ, zero, suc, ◌+◌, ◌≤◌, Bool, true, false, ◌||◌, List, [], ◌∷◌, ◌++◌, length, map, take, drop, refl, sym, ap, ◌∙◌, arith, subst, append-nil, length-append, if◌then◌else◌}
 use Rattle.syntax_tree.specs.declared.bindings.Bindings.{Bindings}
 use Rattle.syntax_tree.specs.declared.notes.Place.{Place}
 use Rattle.syntax_tree.specs.declared.notes.Visible.{Visible}
@@ -10,7 +10,6 @@ use Rattle.syntax_tree.specs.Need.{StatNeed, need_stat, block_from}
 use Rattle.syntax_tree.specs.Rules as rules
 use Rattle.syntax_tree.specs.Rules.{rules_stat}
 use Rattle.op_words.specs.declared.insn.Insn.TheVariants as i
-use Rattle.code_link.specs.Labels.{place_in}
 use Rattle.emit_expr.specs.declared.draft.Draft.{Draft}
 use Rattle.emit_expr.specs.declared.draft.Emitter.{Emitter}
 use Rattle.emit_expr.specs.declared.draft.Loop.{Loop}
@@ -21,23 +20,21 @@ use Rattle.emit_expr.specs.Names.{is_captured, any_captured, close_run, ended}
 use Rattle.emit_laws.specs.Growing.{Prefix, Grows}
 use Rattle.emit_laws.proofs.Grows as grows
 use Rattle.emit_laws.proofs.Keeps as keeps
-use Rattle.node_code.specs.Nodes.{StatCode}
-use Rattle.node_code.specs.Code.{stat_code, stats_run, block_run, body_run, in_turn}
-use Rattle.scope_laws.specs.Sight.{Sight, Part, expr, stat, function, block, enter}
+use Rattle.node_code.specs.Code.{stat_code, stats_run, block_run}
+use Rattle.scope_laws.specs.Sight.{Part, stat, block, enter}
 use Rattle.code_simulation.specs.Slots.{Slot, Var, Temp, Above, same, up, Plainly, plain_same, plain_temp, plain_var}
 use Rattle.code_simulation.specs.Relation.{Setting}
 use Rattle.code_simulation.proofs.Along.{Here, Reads}
 use Rattle.code_simulation.proofs.Names.{above_all}
 use Rattle.code_simulation.proofs.Blocks.{Jumps, outside, breaking, looping, BlockRuns, block_none, block_more, Closes, closes, closes_nothing}
 use Rattle.code_simulation.proofs.Blocks as simulated
-use Rattle.code_simulation.proofs.Repeats.{UntilRuns, until_none, until_early, until_more}
 use Rattle.compiled_runs.proofs.Places.{here, Inside, before, rises}
 use Rattle.compiled_runs.proofs.Scopes.{Aligned}
-use Rattle.compiled_runs.proofs.Standing.{Script, At, kept}
+use Rattle.compiled_runs.proofs.Standing.{Script, At}
 use Rattle.compiled_runs.proofs.NodeLevels.{stat_code_of, stat_need_of, stat_rules_of, ends_turn_of}
-use Rattle.compiled_runs.proofs.Nodes.{Runs, In, Stand, reads}
+use Rattle.compiled_runs.proofs.Nodes.{Runs, In, reads}
 use Rattle.compiled_runs.proofs.Turns.{any, ends_turn}
-use Rattle.compiled_runs.proofs.Statements.{variables_in, may_break, may_continue, Allowed, Leads, InLoop, Goes, Does, Performs, AllPerform, in_statement, plain_goes}
+use Rattle.compiled_runs.proofs.Statements.{variables_in, may_break, may_continue, Allowed, Leads, InLoop, Does, Performs, AllPerform, in_statement, plain_goes}
 
 -- ---- lists
 

@@ -1,39 +1,32 @@
 -- Functions: where the statements of each function's text do what they do, a function that is entered goes along with its code, and the code
 -- of each function in one that runs is there.
-use Rattle.std.proofs.Common.{◌≡◌, ℕ, zero, suc, ◌+◌, ◌-◌, ◌<◌, ◌≤◌, ◌^◌, min, Bool, true, false, List, [], ◌∷◌, ◌++◌, length, map, Option, Some, None, refl, sym, ap, ◌∙◌, arith, subst, append-nil}
+use Rattle.std.proofs.Common.{◌≡◌, ℕ, ◌+◌, ◌≤◌, Bool, true, false, List, [], ◌∷◌, ◌++◌, length, map, Option, Some, None, refl, sym, ap, ◌∙◌, arith, subst, append-nil}
 use Rattle.std.specs.Prelude.{slice_get, unwrap_or}
 use Rattle.std.specs.List.{Contains}
 use Rattle.byte_text.specs.declared.fixed.StrId.{StrId}
 use Rattle.syntax_tree.specs.declared.bindings.Bindings.{Bindings}
 use Rattle.syntax_tree.specs.declared.notes.Place.{Place}
 use Rattle.syntax_tree.specs.declared.tree.FuncBody.{FuncBody, out-FuncBody}
-use Rattle.syntax_tree.specs.declared.tree.Stat.{Stat}
-use Rattle.syntax_tree.specs.Bound as bindings
 use Rattle.syntax_tree.specs.Need as need
 use Rattle.syntax_tree.specs.Need.{need_stat, block_from}
 use Rattle.syntax_tree.specs.Numbers.{numbered}
-use Rattle.syntax_tree.specs.Rules as rules
-use Rattle.syntax_tree.specs.Rules.{rules_stat}
 use Rattle.syntax_tree.specs.Scope.{look}
 use Rattle.source_meaning.specs.States.{Environment, cell_of}
 use Rattle.op_words.specs.Chunks.{ProtoOf}
 use Rattle.op_words.specs.declared.insn.Insn.TheVariants as i
 use Rattle.machine_meaning.specs.Chunks.{proto_at}
-use Rattle.code_link.specs.Labels.{place_in}
 use Rattle.emit_expr.specs.declared.draft.Emitter.{Emitter}
 use Rattle.emit_expr.specs.declared.draft.Prototype.{Prototype}
-use Rattle.emit_expr.specs.Puts.{Step, put, insn, blank, long, with_draft, with_child, with_prototype, done}
+use Rattle.emit_expr.specs.Puts.{put, blank, with_draft, with_child, with_prototype}
 use Rattle.emit_expr.specs.Names.{first_at, upvalues_at, declare_all, capture_of, capture, captures, register_in, is_captured, upvalue_in}
 use Rattle.emit_laws.specs.Growing.{Prefix, Grows}
 use Rattle.emit_laws.proofs.Grows as grows
 use Rattle.emit_laws.proofs.Keeps as keeps
 use Rattle.node_code.specs.Code.{stat_code, func_code, stats_run, no_loop, prepared}
-use Rattle.scope_laws.specs.Captured as scope_captured
-use Rattle.scope_laws.specs.Declared.{own_names}
-use Rattle.scope_laws.specs.Sight.{Sight, Part, stat, function, visible, with_locals, in_part, Within, itself, enter, Sees}
+use Rattle.scope_laws.specs.Sight.{Sight, Part, stat, function, in_part, itself, enter, Sees}
 use Rattle.scope_laws.proofs.Capturing.{functions_capture}
 use Rattle.scope_laws.proofs.Levels as levels
-use Rattle.code_simulation.specs.Slots.{Slot, vars, same}
+use Rattle.code_simulation.specs.Slots.{Slot, vars}
 use Rattle.value_model.specs.Values.{Value}
 use Rattle.value_model.specs.Waits.{Wait}
 use Rattle.source_meaning.specs.States as source
@@ -43,21 +36,20 @@ use Rattle.code_simulation.proofs.Along.{CallsGo, Stands, Here, env_of, Reads}
 use Rattle.code_simulation.proofs.Names.{length_vars, above_vars}
 use Rattle.code_simulation.proofs.Blocks.{outside, BlockRuns}
 use Rattle.code_simulation.proofs.Entering.{FuncsGo, here_of, Begins, at_once, prepared as begins_prepared, entered_same}
-use Rattle.compiled_runs.proofs.Reading.{AreRead, linked_read}
-use Rattle.compiled_runs.proofs.Places.{here, Inside, before, before_put, insn_read}
-use Rattle.compiled_runs.proofs.Scopes.{AllBelow, Aligned}
+use Rattle.compiled_runs.proofs.Reading.{linked_read}
+use Rattle.compiled_runs.proofs.Places.{here, before, before_put}
+use Rattle.compiled_runs.proofs.Scopes.{AllBelow}
 use Rattle.compiled_runs.proofs.Numbers.{sound}
 use Rattle.compiled_runs.proofs.Constants.{get_last, get_prefix, get_within}
 use Rattle.compiled_runs.proofs.Standing as standing
 use Rattle.compiled_runs.proofs.Standing.{Script, Running, At}
-use Rattle.compiled_runs.proofs.Nodes.{Runs, In, reads}
+use Rattle.compiled_runs.proofs.Nodes.{In, reads}
 use Rattle.compiled_runs.proofs.Captures.{Named, unseen}
-use Rattle.compiled_runs.proofs.Functions.{begun, finished, child_number, closed, numbered_child, capturing, its_prototype, func_is, finished_func, FunctionsCoded}
-use Rattle.compiled_runs.proofs.Turns.{any, ends_turn}
+use Rattle.compiled_runs.proofs.Functions.{begun, finished, child_number, numbered_child, capturing, its_prototype, func_is, finished_func, FunctionsCoded}
 use Rattle.compiled_runs.proofs.Statements.{AllPerform}
 use Rattle.compiled_runs.proofs.Locals.{here_declared, all_declared, first_seen, few_seen}
 use Rattle.compiled_runs.proofs.Blocks.{block_goes, AllAllowed, Last}
-use Rattle.compiled_runs.proofs.Chunks.{Linked, LinkedAt, Chunk, CodeOf, named_as_many}
+use Rattle.compiled_runs.proofs.Chunks.{Chunk, CodeOf, named_as_many}
 use Rattle.compiled_runs.proofs.Enclosed.{named_upvalue}
 
 -- ---- what the steps of a function leave

@@ -1,38 +1,36 @@
 -- `if`: the block of the first arm whose condition is true, or that of `else`.
-use Rattle.std.proofs.Common.{◌≡◌, ℕ, ◌+◌, ◌≤◌, pos, max, Bool, true, false, ◌||◌, List, [], ◌∷◌, ◌++◌, length, map, Option, Some, None, refl, sym, ap, ◌∙◌, arith, subst, if◌then◌else◌, nat_eq}
+use Rattle.std.proofs.Common.{◌≡◌, ℕ, ◌+◌, ◌≤◌, pos, max, Bool, true, false, ◌||◌, List, [], ◌∷◌, ◌++◌, length, map, Option, Some, None, refl, sym, ap, ◌∙◌, arith, subst, if◌then◌else◌}
 use Rattle.std.proofs.lemmas.Bool.{ne_eqb}
 use Rattle.syntax_tree.specs.declared.bindings.Bindings.{Bindings}
 use Rattle.syntax_tree.specs.declared.notes.Place.{Place}
 use Rattle.syntax_tree.specs.declared.tree.Arm.{Arm, out-Arm}
-use Rattle.syntax_tree.specs.declared.tree.Expr.{Expr}
 use Rattle.syntax_tree.specs.declared.tree.Stat.{Stat}
 use Rattle.syntax_tree.specs.declared.tree.StatKind.{out-StatKind}
 use Rattle.syntax_tree.specs.declared.tree.ExprKind.TheOpen as level
 use Rattle.syntax_tree.specs.Lists.{greatest}
-use Rattle.syntax_tree.specs.Need.{StatNeed, need_expr, need_stat, need_arm, block_from, else_need}
+use Rattle.syntax_tree.specs.Need.{StatNeed, need_stat, need_arm, block_from}
 use Rattle.syntax_tree.specs.Rules as rules
 use Rattle.syntax_tree.specs.Rules.{StatRules, rules_expr, rules_stat, rules_arm}
 use Rattle.op_words.specs.declared.insn.Insn.TheVariants as i
 use Rattle.code_link.specs.Labels.{place_in}
 use Rattle.emit_expr.specs.declared.draft.Emitter.{Emitter}
 use Rattle.emit_expr.specs.declared.draft.Loop.{Loop}
-use Rattle.emit_expr.specs.Puts.{label, place, branch}
+use Rattle.emit_expr.specs.Puts.{label, place}
 use Rattle.emit_laws.specs.Growing.{Grows}
 use Rattle.emit_laws.proofs.Grows as grows
 use Rattle.emit_laws.proofs.Keeps as keeps
-use Rattle.node_code.specs.Nodes.{ExprCode, ArmCode}
-use Rattle.node_code.specs.Code.{expr_code, stat_code, arm_code, block_run, skip_rest, arm_end, arm_run, has_more, arms_run, branches_run, plain}
-use Rattle.scope_laws.specs.Sight.{Part, expr, stat, arm, block, enter, else_block}
+use Rattle.node_code.specs.Code.{expr_code, stat_code, block_run, skip_rest, arm_run, has_more, arms_run, branches_run, plain}
+use Rattle.scope_laws.specs.Sight.{Part, expr, arm, block, enter}
 use Rattle.code_simulation.specs.Slots.{Slot, same}
 use Rattle.code_simulation.specs.Relation.{Setting}
 use Rattle.code_simulation.proofs.Along.{Here}
 use Rattle.code_simulation.proofs.Blocks.{Jumps, StatRuns}
 use Rattle.code_simulation.proofs.Statements.{ChooseRuns, choose_none, choose_other, choose_arm, if_stat_same, Skips, skips, skips_nothing}
-use Rattle.compiled_runs.proofs.Places.{here, Inside, before, before_put, here_place, label_read, rises}
-use Rattle.compiled_runs.proofs.Standing.{Script, At, kept, next_expr}
+use Rattle.compiled_runs.proofs.Places.{here, before, before_put, here_place, label_read, rises}
+use Rattle.compiled_runs.proofs.Standing.{Script, weak, At, kept, next_expr}
 use Rattle.compiled_runs.proofs.NodeLevels.{stat_code_of, stat_need_of, stat_rules_of, ends_turn_of, arm_parts, arms_are, need_arm_of, rules_arm_of, arm_ends_of}
-use Rattle.compiled_runs.proofs.Nodes.{Runs, In, Stand, As, jump_at}
-use Rattle.compiled_runs.proofs.Turns.{any, else_ends, ends_turn, arm_ends}
+use Rattle.compiled_runs.proofs.Nodes.{Runs, In, As, jump_at}
+use Rattle.compiled_runs.proofs.Turns.{any, ends_turn, arm_ends}
 use Rattle.compiled_runs.proofs.Statements.{may_break, may_continue, Allowed, InLoop, Does, Performs, AllPerform, next_quiet, in_statement, plain_goes}
 use Rattle.compiled_runs.proofs.Blocks.{left_none, right_none, or_left, or_right, loop_later, AllAllowed, enclosed, block_keeps}
 
@@ -175,7 +173,7 @@ module _ (p : Setting) (most : ℕ) (b : Bindings) (whole : Emitter) (script : S
         (omega (arith, e4, le5, le3)) around) (arm_allowed a arms j at allowed) in
         let g4 : Grows d d4 = grows.put _ d _ (grows.after d d2 d3 (grows.after d d1 d2 g1 (block_grows a d)) g3) in
         choose_arm p most a arms other h l j (here d) (here d1) body.middle (here d2) (here d3) to body.End
-        (performs.0.0.cond false h r _ l d next (here d3) (record { at = inner; inside = s1; func = func; room = omega (arith, room, needed) })
+        (performs.0.0.cond false h r _ l d next (here d3) (record { at = weak p most b whole script h r _ l d inner; inside = s1; func = func; room = omega (arith, room, needed) })
         (label_read r.final whole h.proto.code r.read next d3 s4) (omega (arith, le2, le3)))
         body.runs body.closes
         (skips_at again d2 s3 (omega (arith, e4, le5, le))

@@ -1,5 +1,5 @@
 -- In a function that is built and proper, all parts are.
-use Rattle.std.proofs.Common.{◌≡◌, ℕ, Bool, true, false, ◌&&◌, List, [], ◌∷◌, ◌++◌, map, Option, Some, None, refl, sym, ap, ◌∙◌, append-nil, subst}
+use Rattle.std.proofs.Common.{◌≡◌, true, ◌&&◌, List, [], ◌∷◌, ◌++◌, map, Some, None, sym, ap, ◌∙◌, append-nil, subst}
 use Rattle.syntax_tree.specs.declared.tree.Arm.{Arm, out-Arm}
 use Rattle.syntax_tree.specs.declared.tree.Expr.{Expr}
 use Rattle.syntax_tree.specs.declared.tree.ExprArm.{ExprArm}
@@ -11,7 +11,7 @@ use Rattle.syntax_tree.specs.declared.tree.StatKind.{out-StatKind}
 use Rattle.syntax_tree.specs.Fold.{at_arm}
 use Rattle.syntax_tree.specs.Proper as proper
 use Rattle.syntax_tree.specs.Proper.{all, all_targets, all_proper, has_one, has_two, stands_between, computes, form_expr, proper_stat, proper_arm, proper_expr_arm, proper_func}
-use Rattle.scope_laws.specs.Sight.{Sight, Part, expr, stat, function, arm, expr_arm, field, block, ExprLevel, StatLevel, behind, expr_parts, in_stat, in_part, Within, itself, next, enter, Sees}
+use Rattle.scope_laws.specs.Sight.{Sight, Part, expr, stat, function, arm, expr_arm, field, block, ExprLevel, StatLevel, expr_parts, in_stat, in_part, itself, next, enter, Sees}
 use Rattle.scope_laws.proofs.Levels as levels
 use Rattle.compiled_runs.specs.Built as built
 use Rattle.compiled_runs.specs.Built.{built_expr, built_expr_arm, built_stat, built_func}

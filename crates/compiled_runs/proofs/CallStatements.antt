@@ -1,5 +1,5 @@
 -- A call as a statement.
-use Rattle.std.proofs.Common.{◌≡◌, ℕ, ◌+◌, ◌≤◌, List, [], ◌∷◌, length, map, refl, sym, ap, ◌∙◌, arith, subst}
+use Rattle.std.proofs.Common.{◌≡◌, ℕ, ◌+◌, ◌≤◌, List, [], ◌∷◌, length, refl, sym, ap, arith, subst}
 use Rattle.syntax_tree.specs.declared.bindings.Bindings.{Bindings}
 use Rattle.syntax_tree.specs.declared.tree.Expr.{Expr}
 use Rattle.syntax_tree.specs.declared.tree.ExprKind.{out-ExprKind}
@@ -11,15 +11,14 @@ use Rattle.emit_laws.proofs.Keeps as keeps
 use Rattle.node_code.specs.Nodes.{ExprCode}
 use Rattle.node_code.specs.Lists.{list_run}
 use Rattle.node_code.specs.Code.{expr_code, call_run, plain}
-use Rattle.scope_laws.specs.Sight.{Part, expr, stat}
+use Rattle.scope_laws.specs.Sight.{expr}
 use Rattle.code_simulation.specs.Relation.{Setting}
-use Rattle.code_simulation.proofs.Along.{CallsGo, Here}
+use Rattle.code_simulation.proofs.Along.{CallsGo}
 use Rattle.code_simulation.proofs.Statements.{call_stat_same}
 use Rattle.emit_expr.specs.declared.draft.Emitter.{Emitter}
 use Rattle.compiled_runs.proofs.Places.{here}
-use Rattle.compiled_runs.proofs.Standing.{Script}
+use Rattle.compiled_runs.proofs.Standing.{Script, weak}
 use Rattle.compiled_runs.proofs.NodeLevels.{code_of, stat_code_of, stat_need_of}
-use Rattle.compiled_runs.proofs.Nodes.{Runs, Stand}
 use Rattle.compiled_runs.proofs.Following.{value_keeps}
 use Rattle.compiled_runs.proofs.Lists.{AllHold, codes}
 use Rattle.compiled_runs.proofs.Leaves.{Holds}
@@ -40,7 +39,8 @@ module _ (p : Setting) (most : ℕ) (calls : (i : ℕ) → i ≤ most → CallsG
         let needed : (need_stat s).need ≡ (need_expr e).need = ap (λ (n : StatNeed). n.need) (stat_need_of s (level.StatKind::Call e) is) in
         let room = st.room in
         let c = call_stands p most calls b whole script e f args kind hf a 1 h r [] l d (record {
-          at = in_statement p most b whole script h r s (level.StatKind::Call e) ps l d is st.at refl (omega arith) refl;
+          at = weak p most b whole script h r (expr e ∷ []) l d
+              (in_statement p most b whole script h r s (level.StatKind::Call e) ps l d is st.at refl (omega arith) refl);
           inside = st.inside;
           func = st.func;
           room = omega (arith, room, needed);

@@ -33,9 +33,10 @@ use Rattle.code_simulation.proofs.Functions.{Captured, from_register, from_upval
 use Rattle.compiled_runs.proofs.Places.{here, before}
 use Rattle.compiled_runs.proofs.Sights.{deep, further}
 use Rattle.compiled_runs.proofs.Numbers.{look_more}
-use Rattle.compiled_runs.proofs.Scopes.{Aligned, register_none, found, missing, own_numbers}
+use Rattle.compiled_runs.proofs.Scopes.{some_none, register_none}
+use Rattle.compiled_runs.proofs.Skipped.{Shows, Partly, partly_same, partly_found, partly_missing}
 use Rattle.compiled_runs.proofs.Standing as standing
-use Rattle.compiled_runs.proofs.Standing.{Script, At, around}
+use Rattle.compiled_runs.proofs.Standing.{Script, AtSome, around}
 use Rattle.compiled_runs.proofs.Nodes.{Runs, In, reads}
 
 -- these names stand for these locals
@@ -82,26 +83,27 @@ told_captured main s f rest k sees c = by (slice_get (bindings.bound (numbered m
 module _ (p : Setting) (most : ℕ) (b : Bindings) (whole : Emitter) (script : Script p b whole) where
   module _ (h : Here p most) (r : Runs p most b whole script h) where
     -- a local that a function captures, by a name where the function begins
-    pub record CapturedLocal (vs : List Visible) (k : ℕ) : Type 0 where
+    pub record CapturedLocal (hidden vs : List Visible) (k : ℕ) : Type 0 where
       pub name : StrId
       pub stands : look name vs ≡ Some k
       pub flag : is_captured b k ≡ true
       pub around : k < r.from.declared → Contains r.captured.locals k
+      pub shows : Shows hidden (Some k)
 
-    abbrev pub AreCaptured : List Visible → List ℕ → Type 0
-    AreCaptured vs [] = Unit {0}
-    AreCaptured vs (k ∷ ks) = CapturedLocal vs k × AreCaptured vs ks
+    abbrev pub AreCaptured : (hidden : List Visible) → List Visible → List ℕ → Type 0
+    AreCaptured hidden vs [] = Unit {0}
+    AreCaptured hidden vs (k ∷ ks) = CapturedLocal hidden vs k × AreCaptured hidden vs ks
 
-    each : (vs : List Visible) (ks : List ℕ) → ((i k : ℕ) → slice_get ks i ≡ Some k → CapturedLocal vs k) → AreCaptured vs ks
-    each vs [] f = tt
-    each vs (k ∷ ks) f = (f 0 k refl, each vs ks (λ i j e. f (suc i) j e))
+    each : (hidden vs : List Visible) (ks : List ℕ) → ((i k : ℕ) → slice_get ks i ≡ Some k → CapturedLocal hidden vs k) → AreCaptured hidden vs ks
+    each hidden vs [] f = tt
+    each hidden vs (k ∷ ks) f = (f 0 k refl, each hidden vs ks (λ i j e. f (suc i) j e))
 
     -- a function that stands here captures such locals
-    pub are_captured : (f : FuncBody) (ps : List Part) (l : List Slot) (d : Emitter) → (a : At p most b whole script h r (function f ∷ ps) l d)
-        → AreCaptured a.sight.scope (upvalues_at b (out-FuncBody f).id)
+    pub are_captured : (f : FuncBody) (ps : List Part) (l : List Slot) (d : Emitter) → (a : AtSome p most b whole script h r (function f ∷ ps) l d)
+        → AreCaptured a.aligned.partly.hidden a.sight.scope (upvalues_at b (out-FuncBody f).id)
     are_captured f ps l d a =
-        subst (λ ks. AreCaptured a.sight.scope ks) (sym listed)
-        (each a.sight.scope c.0.locals (λ i k e. one k ((c.0.each k).0 (contains_at c.0.locals i k e))))
+        subst (λ ks. AreCaptured a.aligned.partly.hidden a.sight.scope ks) (sym listed)
+        (each a.aligned.partly.hidden a.sight.scope c.0.locals (λ i k e. one k ((c.0.each k).0 (contains_at c.0.locals i k e))))
       where
         seen : (others : List Part) × Sees (numbered script.main).main a.sight ((function f ∷ ps) ++ others)
         seen = standing.sees p most b whole script h r (function f ∷ ps) l d a
@@ -112,7 +114,7 @@ module _ (p : Setting) (most : ℕ) (b : Bindings) (whole : Emitter) (script : S
         listed : upvalues_at b (out-FuncBody f).id ≡ c.0.locals
         listed = ap (λ (b : Bindings). upvalues_at b (out-FuncBody f).id) script.is ∙ ap (λ o. unwrap_or o []) c.1
 
-        one : (k : ℕ) → scope_captured.Captures a.sight f k → CapturedLocal a.sight.scope k
+        one : (k : ℕ) → scope_captured.Captures a.sight f k → CapturedLocal a.aligned.partly.hidden a.sight.scope k
         one k t = record {
           name = t.name.name;
           stands = name_outside a.sight f k t;
@@ -122,25 +124,27 @@ module _ (p : Setting) (most : ℕ) (b : Bindings) (whole : Emitter) (script : S
             stands = t.stands;
             outside = lt;
           });
+          shows = subst (Shows a.aligned.partly.hidden) t.stands
+              (a.aligned.unnamed (name_further a.aligned.root a.aligned.around_it a.sight f ps a.aligned.deep t.name));
         }
 
     -- and has names for them
-    pub names : (vs : List Visible) (ks : List ℕ) → AreCaptured vs ks → List StrId
-    names vs [] a = []
-    names vs (k ∷ ks) a = a.0.name ∷ names vs ks a.1
+    pub names : (hidden vs : List Visible) (ks : List ℕ) → AreCaptured hidden vs ks → List StrId
+    names hidden vs [] a = []
+    names hidden vs (k ∷ ks) a = a.0.name ∷ names hidden vs ks a.1
 
-    pub are_named : (vs : List Visible) (ks : List ℕ) (a : AreCaptured vs ks) → Named vs ks (names vs ks a)
+    pub are_named : (hidden vs : List Visible) (ks : List ℕ) (a : AreCaptured hidden vs ks) → Named vs ks (names hidden vs ks a)
     unfolding names
-    are_named vs [] a = tt
-    are_named vs (k ∷ ks) a = (a.0.stands, are_named vs ks a.1)
+    are_named hidden vs [] a = tt
+    are_named hidden vs (k ∷ ks) a = (a.0.stands, are_named hidden vs ks a.1)
 
     -- ---- the instructions
 
     -- of a variable
     one_captured : (k : ℕ) (x : StrId) (vs : List Visible) (l : List Slot) (d : Emitter) → look x vs ≡ Some k → is_captured b k ≡ true
-        → (k < r.from.declared → Contains r.captured.locals k) → Aligned b r.from.scope r.from.declared l vs d.draft.variables
-        → d.draft.func ≡ r.final.func → In p most b whole script h r (capture b k d) → Captured p most h l x (here d) (here (capture b k d))
-    one_captured k x vs l d e flag outside a func = by (nat_lt k r.from.declared) refl
+        → (k < r.from.declared → Contains r.captured.locals k) → (q : Partly b r.from.scope r.from.declared l vs d.draft.variables)
+        → Shows q.hidden (Some k) → d.draft.func ≡ r.final.func → In p most b whole script h r (capture b k d) → Captured p most h l x (here d) (here (capture b k d))
+    one_captured k x vs l d e flag outside q shows func = by (nat_lt k r.from.declared) refl
       where
         is_below : (n : ℕ) → nat_lt k n ≡ true → k < n
         is_below n e = grind (arith, nat_tests)
@@ -157,39 +161,39 @@ module _ (p : Setting) (most : ℕ) (b : Bindings) (whole : Emitter) (script : S
         by : (t : Bool) → nat_lt k r.from.declared ≡ t → In p most b whole script h r (capture b k d)
             → Captured p most h l x (here d) (here (capture b k d))
         by true lt =
-            let m = missing b r.from.scope r.from.declared x (Some k) l vs d.draft.variables a e (is_below r.from.declared lt) in
+            let m = partly_missing b r.from.scope r.from.declared x (Some k) l vs d.draft.variables q e shows (is_below r.from.declared lt) in
             put None
-            (register_none k r.from.declared d.draft.variables (own_numbers b r.from.scope r.from.declared l vs d.draft.variables a)
-            (is_below r.from.declared lt))
+            (register_none k r.from.declared d.draft.variables q.own (is_below r.from.declared lt))
             (λ s. from_upvalue (upvalue_of b k d) m.at
             (ap (λ n. slice_get h.act.ups (upvalue_in b n k)) func ∙ r.upvalues x k m.around (outside (is_below r.from.declared lt)))
             (reads p most b whole script h r (i.Capture 2 (upvalue_of b k d)) d s))
         by false ge =
-            let f = found b r.from.scope r.from.declared x k l vs d.draft.variables (around p most b whole script h r) a e
+            let f = partly_found b r.from.scope r.from.declared x k l vs d.draft.variables (around p most b whole script h r) q e shows
             (not_below r.from.declared ge) in
             put (Some f.local.register) f.register
             (λ s. from_register f.local f.at (f.flag ∙ flag) (reads p most b whole script h r (i.Capture 1 f.local.register) d s))
 
     -- of all of them
-    pub all_captured : (vs : List Visible) (ks : List ℕ) (c : AreCaptured vs ks) (l : List Slot) (d : Emitter)
-        → Aligned b r.from.scope r.from.declared l vs d.draft.variables → d.draft.func ≡ r.final.func → In p most b whole script h r (captures b ks d)
-        → functions.Captures p most h l (names vs ks c) (here d) (here (captures b ks d))
+    pub all_captured : (vs : List Visible) (ks : List ℕ) (l : List Slot) (d : Emitter)
+        → (q : Partly b r.from.scope r.from.declared l vs d.draft.variables) → (c : AreCaptured q.hidden vs ks) → d.draft.func ≡ r.final.func
+        → In p most b whole script h r (captures b ks d) → functions.Captures p most h l (names q.hidden vs ks c) (here d) (here (captures b ks d))
     unfolding names
-    all_captured vs [] c l d a func s = refl
-    all_captured vs (k ∷ ks) c l d a func s =
+    all_captured vs [] l d q c func s = refl
+    all_captured vs (k ∷ ks) l d q c func s =
         let d1 = capture b k d in (
           here d1,
-          one_captured k c.0.name vs l d c.0.stands c.0.flag c.0.around a func
+          one_captured k c.0.name vs l d c.0.stands c.0.flag c.0.around q c.0.shows func
               (before r.final whole d1 (captures b ks d1) (grows.captures_good b ks d1 d1 (grows.none d1)) s),
-          all_captured vs ks c.1 l d1
-              (subst (Aligned b r.from.scope r.from.declared l vs) (sym (keeps.capture_good b k d d (keeps.none d))) a)
-              ((grows.capture_good b k d d (grows.none d)).func ∙ func) s,
+          all_captured vs ks l d1
+              (partly_same b r.from.scope r.from.declared l vs vs d.draft.variables d1.draft.variables refl
+              (keeps.capture_good b k d d (keeps.none d)) q)
+              c.1 ((grows.capture_good b k d d (grows.none d)).func ∙ func) s,
         )
 
     -- ---- names that stand for no local
 
-    pub unseen : (ps : List Part) (l : List Slot) (d : Emitter) → (a : At p most b whole script h r ps l d) → (x : StrId)
+    pub unseen : (ps : List Part) (l : List Slot) (d : Emitter) → (a : AtSome p most b whole script h r ps l d) → (x : StrId)
         → look x a.sight.scope ≡ None → cell_of (env_of p most h l) x ≡ None
     unseen ps l d a x e =
-        let m = missing b r.from.scope r.from.declared x None l a.sight.scope d.draft.variables a.aligned e tt in
+        let m = partly_missing b r.from.scope r.from.declared x None l a.sight.scope d.draft.variables a.aligned.partly e (λ k is. some_none is) tt in
         look_out l h.act.outer x m.at ∙ r.globals x m.around

@@ -1,5 +1,5 @@
 -- `if` expressions.
-use Rattle.std.proofs.Common.{◌≡◌, ℕ, ◌≤◌, pos, false, max, List, [], ◌∷◌, ◌++◌, length, map, Some, refl, sym, ap, ap₂, ◌∙◌, arith, subst, append-nil}
+use Rattle.std.proofs.Common.{◌≡◌, ℕ, ◌≤◌, pos, false, max, List, [], ◌∷◌, ◌++◌, length, map, Some, refl, sym, ap, ap₂, ◌∙◌, arith, subst}
 use Rattle.syntax_tree.specs.declared.bindings.Bindings.{Bindings}
 use Rattle.syntax_tree.specs.declared.tree.Expr.{Expr}
 use Rattle.syntax_tree.specs.declared.tree.ExprArm.{ExprArm}
@@ -20,8 +20,7 @@ use Rattle.node_code.specs.Nodes.{ChoiceCode, single}
 use Rattle.node_code.specs.Conditions.{choice_run, choices_run, if_run}
 use Rattle.node_code.specs.Code as code
 use Rattle.node_code.specs.Code.{expr_code, choice_code}
-use Rattle.scope_laws.specs.Sight.{Part, expr, expr_arm, behind}
-use Rattle.scope_laws.specs.Sight as sight
+use Rattle.scope_laws.specs.Sight.{Part, expr, expr_arm}
 use Rattle.scope_laws.proofs.Levels as levels
 use Rattle.code_simulation.specs.Slots.{Slot}
 use Rattle.code_simulation.specs.Relation.{Setting}
@@ -29,8 +28,7 @@ use Rattle.code_simulation.proofs.Along.{CallsGo, Here}
 use Rattle.code_simulation.proofs.Parts.{ExprRuns, PickRuns}
 use Rattle.code_simulation.proofs.Conditions.{pick_other, pick_arm, if_same}
 use Rattle.compiled_runs.proofs.Places.{here, before, here_place, rises, label_read}
-use Rattle.compiled_runs.proofs.Scopes.{Aligned, below_later}
-use Rattle.compiled_runs.proofs.Standing.{Script, At, kept}
+use Rattle.compiled_runs.proofs.Standing.{Script, AtSome, in_quiet, next_part, kept}
 use Rattle.compiled_runs.proofs.NodeLevels.{code_of}
 use Rattle.compiled_runs.proofs.Nodes.{Runs, Stand, As, jump_at}
 use Rattle.compiled_runs.proofs.Following.{front, next, parts, value_grows, jump_grows, jump_keeps}
@@ -82,25 +80,13 @@ module _ (p : Setting) (most : ℕ) (calls : (i : ℕ) → i ≤ most → CallsG
 
     -- ---- where its parts stand, and what stands behind it
 
-    in_arm : (a : ExprArm) (ps : List Part) (l : List Slot) (d : Emitter) → At p most b whole script h r (expr_arm a ∷ ps) l d
-        → At p most b whole script h r (expr a.cond ∷ expr a.value ∷ []) l d
-    in_arm a ps l d t = record {
-      sight = t.sight;
-      seen = sight.enter t.sight (expr_arm a) ps t.seen;
-      aligned = t.aligned;
-      first = t.first;
-      below = t.below;
-    }
+    in_arm : (a : ExprArm) (ps : List Part) (l : List Slot) (d : Emitter) → AtSome p most b whole script h r (expr_arm a ∷ ps) l d
+        → AtSome p most b whole script h r (expr a.cond ∷ expr a.value ∷ []) l d
+    in_arm a ps l d t = in_quiet p most b whole script h r (expr_arm a) ps l d (λ s. refl) t
 
-    next_arm : (a : ExprArm) (ps : List Part) (l : List Slot) (d : Emitter) → At p most b whole script h r (expr_arm a ∷ ps) l d
-        → At p most b whole script h r ps l d
-    next_arm a ps l d t = record {
-      sight = behind (expr_arm a) t.sight;
-      seen = sight.next t.sight (expr_arm a) ps t.seen;
-      aligned = subst (λ vs. Aligned b r.from.scope r.from.declared l vs d.draft.variables) (sym (append-nil t.sight.scope)) t.aligned;
-      first = t.first;
-      below = below_later t.sight.declared (behind (expr_arm a) t.sight).declared d.draft.variables (omega arith) t.below;
-    }
+    next_arm : (a : ExprArm) (ps : List Part) (l : List Slot) (d : Emitter) → AtSome p most b whole script h r (expr_arm a ∷ ps) l d
+        → AtSome p most b whole script h r ps l d
+    next_arm a ps l d t = next_part p most b whole script h r (expr_arm a) ps l d (λ n. refl) t
 
     arm_stands : (a : ExprArm) (ps : List Part) (l : List Slot) (d d1 d2 : Emitter) (n : ℕ) → Stands (expr_arm a ∷ ps) l d d2 n → Grows d1 d2
         → arm_need a ≤ n → Stands (expr a.cond ∷ expr a.value ∷ []) l d d1 (arm_need a)

@@ -1,10 +1,6 @@
 -- A chunk of the functions that were emitted, each linked; and which prototype is the code of a function of the tree.
-use Rattle.std.proofs.Common.{◌≡◌, ℕ, zero, suc, ◌+◌, ◌<◌, ◌≤◌, ◌^◌, min, Bool, true, false, List, [], ◌∷◌, ◌++◌, length, map, Option, Some, None, refl, sym, ap, ◌∙◌, arith, subst, nat_eq, if◌then◌else◌, ◌⊎◌, inl, inr, ⊎_elim}
-use Rattle.std.specs.Prelude.{slice_get, unwrap_or}
-use Rattle.std.specs.List.{Contains}
-use Rattle.std.proofs.lemmas.Bool.{eqb-true, ne_eqb, eq-eqb}
-use Rattle.std.proofs.lemmas.List.Elements.{Contains-append_cases}
-use Rattle.std.proofs.lemmas.Option.{slice_get-get_or}
+use Rattle.std.proofs.Common.{◌≡◌, ℕ, suc, ◌+◌, ◌≤◌, ◌^◌, List, [], ◌∷◌, length, Some, None, refl, ap}
+use Rattle.std.specs.Prelude.{slice_get}
 use Rattle.byte_text.specs.declared.fixed.StrId.{StrId}
 use Rattle.syntax_tree.specs.declared.bindings.Bindings.{Bindings}
 use Rattle.syntax_tree.specs.declared.notes.Visible.{Visible}
@@ -17,13 +13,10 @@ use Rattle.machine_meaning.specs.Chunks.{proto_at}
 use Rattle.code_link.specs.Linking.{IsLinked}
 use Rattle.emit_expr.specs.declared.draft.Emitter.{Emitter}
 use Rattle.emit_expr.specs.declared.draft.Prototype.{Prototype}
-use Rattle.emit_expr.specs.Puts.{narrow}
-use Rattle.emit_expr.specs.Names.{upvalues_at, place_in, upvalue_in}
+use Rattle.emit_expr.specs.Names.{upvalues_at}
 use Rattle.emit_laws.specs.Growing.{Prefix}
 use Rattle.scope_laws.specs.Sight.{Sight, Part, function, Sees}
 use Rattle.compiled_runs.proofs.Reading.{AllFit}
-use Rattle.compiled_runs.proofs.Scopes.{same_some, some_none}
-use Rattle.compiled_runs.proofs.Numbers.{Rising, one_name}
 use Rattle.compiled_runs.proofs.Captures.{Named}
 use Rattle.compiled_runs.proofs.Functions.{finished, its_prototype}
 

@@ -51,14 +51,14 @@ use Rattle.code_simulation.proofs.Blocks.{Jumps, StatRuns}
 use Rattle.code_simulation.proofs.Updates.{reads_local}
 use Rattle.compiled_runs.proofs.Places.{here, before, before_put, here_constant}
 use Rattle.compiled_runs.proofs.Scopes.{Found}
-use Rattle.compiled_runs.proofs.Standing.{Script, At, pushed, kept, next_expr, Stands, local, upvalue, global, name_stands}
+use Rattle.compiled_runs.proofs.Standing.{Script, weak, At, pushed, kept, next_expr, Stands, local, upvalue, global, name_stands}
 use Rattle.compiled_runs.proofs.Constants.{constant_known}
 use Rattle.compiled_runs.proofs.NodeLevels.{code_of, stat_code_of, stat_need_of}
-use Rattle.compiled_runs.proofs.Nodes.{Runs, In, Stand, has_temp, reads}
+use Rattle.compiled_runs.proofs.Nodes.{Runs, In, has_temp, reads}
 use Rattle.compiled_runs.proofs.Leaves.{Holds}
 use Rattle.compiled_runs.proofs.Following.{value_keeps}
 use Rattle.compiled_runs.proofs.Operators.{near_is, IsArithmetic}
-use Rattle.compiled_runs.proofs.Statements.{Does, Performs, in_statement, plain_goes}
+use Rattle.compiled_runs.proofs.Statements.{Begins, Does, Performs, in_statement, plain_goes}
 
 module _ (p : Setting) (most : ℕ) (calls : (i : ℕ) → i ≤ most → CallsGo p i) where
   -- where a local is found under a name
@@ -187,7 +187,7 @@ module _ (p : Setting) (most : ℕ) (calls : (i : ℕ) → i ≤ most → CallsG
         let s1 = before_put r.final whole _ (operand_run c at d) s in
         subst (λ m. In p most b whole script h r (operand_run c m d)
         → OperandRuns p most y h l (here d) (here (operand_run c m d)) (has_temp c.own) (in_register (operand_at c m d))) e
-        (λ s. (hy.operand h r [] l d (record { at = a; inside = s; func = func; room = room })).0) s1
+        (λ s. (hy.operand h r [] l d (record { at = weak p most b whole script h r (expr y ∷ []) l d a; inside = s; func = func; room = room })).0) s1
     operand_by (Some n) o to left at l d near e a func room s = hy.number n (near_is (expr_code b y).number d n near) h l (here d)
 
     pub operates_by : (q : Option ℤ) (o : BinOp) (ao : ArithOp) → IsArithmetic o ao → (to left at : ℕ) (d : Emitter)
@@ -229,7 +229,7 @@ module _ (p : Setting) (most : ℕ) (calls : (i : ℕ) → i ≤ most → CallsG
       → out-StatKind s.kind ≡ level.Compound o t y → out-ExprKind t.kind ≡ level.Name x → bound_at b t.id ≡ bound.Local k
       → Holds p most calls b whole script y → (h : Here p most) (r : Runs p most b whole script h) (ps : List Part) (l : List Slot) (d : Emitter)
       (j : Jumps) (captured : Bool) → is_captured b k ≡ captured
-      → Stand p most b whole script h r (stat s ∷ ps) l d (update_local captured o (expr_code b y) (register_of k d) (length l) d) (need_stat s).need
+      → Begins p most b whole script h r (stat s ∷ ps) l d (update_local captured o (expr_code b y) (register_of k d) (length l) d) (need_stat s).need
       → StatRuns p most s h l j (here d) (here (update_local captured o (expr_code b y) (register_of k d) (length l) d)) (λ c. l)
   update_goes o ao ar up s t y x k is name bound_to hy h r ps l d j false flag st =
       let c = expr_code b y in

@@ -1,5 +1,5 @@
 -- What the machine finds at the places of constants and of texts.
-use Rattle.std.proofs.Common.{rules, ◌≡◌, ℕ, zero, suc, ◌+◌, ◌<◌, ◌≤◌, ◌^◌, ℤ, pos, Bool, true, false, List, [], ◌∷◌, ◌++◌, length, Option, Some, None, refl, sym, ap, ◌∙◌, arith, subst, min, nat_eq, if◌then◌else◌, ◌⊎◌, inl, inr, ⊎_elim}
+use Rattle.std.proofs.Common.{◌≡◌, ℕ, zero, suc, ◌+◌, ◌<◌, ◌≤◌, ℤ, pos, Bool, true, false, List, [], ◌∷◌, ◌++◌, length, Some, refl, sym, ap, ◌∙◌, arith, subst, min, nat_eq, if◌then◌else◌, ◌⊎◌, inl, inr, ⊎_elim}
 use Rattle.std.specs.Prelude.{slice_get}
 use Rattle.std.specs.Option.{option_and_then, option_map}
 use Rattle.std.specs.Ordering.{int_eq}
@@ -8,7 +8,7 @@ use Rattle.std.proofs.lemmas.Int.{ints}
 use Rattle.std.proofs.lemmas.Bool.Decides.{nat_tests}
 use Rattle.byte_text.specs.declared.fixed.StrId.{StrId}
 use Rattle.syntax_tree.specs.declared.bindings.Bindings.{Bindings}
-use Rattle.value_model.specs.Values.{Value, Number, Text}
+use Rattle.value_model.specs.Values.{Number, Text}
 use Rattle.source_meaning.specs.Expressions.{text_of}
 use Rattle.op_words.specs.declared.chunk.Const.{Const}
 use Rattle.op_words.specs.declared.chunk.Const.TheVariants as constant
@@ -17,12 +17,12 @@ use Rattle.op_words.specs.Chunks.{ProtoOf}
 use Rattle.machine_meaning.specs.Constants.{known, name_at, text_in, value_of}
 use Rattle.emit_expr.specs.declared.draft.Emitter.{Emitter}
 use Rattle.emit_expr.specs.Puts.{place_of, place_of_text, added, short, long, constant_place, with_constant, text_constant, with_string, text_place, with_text}
-use Rattle.emit_laws.specs.Growing.{Prefix, Grows}
+use Rattle.emit_laws.specs.Growing.{Prefix}
 use Rattle.emit_laws.proofs.Grows as grows
 use Rattle.code_simulation.specs.Relation.{Setting}
 use Rattle.code_simulation.proofs.Along.{Here}
 use Rattle.compiled_runs.proofs.Places.{Inside, before}
-use Rattle.compiled_runs.proofs.Scopes.{some_none, same_some}
+use Rattle.compiled_runs.proofs.Scopes.{some_none}
 use Rattle.compiled_runs.proofs.Standing.{Script, Running}
 
 -- ---- lists

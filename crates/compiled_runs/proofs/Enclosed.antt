@@ -1,7 +1,7 @@
 -- What a function knows of what is around it, from where its text begins: what it captures, the places of its upvalues, and the names
 -- that stand for no local.
 use Rattle.std.proofs.Common.{◌≡◌, ℕ, zero, suc, ◌+◌, ◌<◌, ◌≤◌, Bool, true, false, List, [], ◌∷◌, ◌++◌, length, Some, refl, sym, ap, ◌∙◌, arith, subst, min, nat_eq, if◌then◌else◌}
-use Rattle.std.specs.Prelude.{slice_get, slice_index_or, unwrap_or}
+use Rattle.std.specs.Prelude.{slice_get, unwrap_or}
 use Rattle.std.specs.List.{Contains}
 use Rattle.std.proofs.lemmas.Option.{slice_get-get_or}
 use Rattle.std.proofs.lemmas.Bool.{eqb-true, eq-eqb}
@@ -9,12 +9,11 @@ use Rattle.byte_text.specs.declared.fixed.StrId.{StrId}
 use Rattle.syntax_tree.specs.declared.bindings.Bindings.{Bindings}
 use Rattle.syntax_tree.specs.declared.notes.Visible.{Visible}
 use Rattle.syntax_tree.specs.declared.tree.FuncBody.{FuncBody, out-FuncBody}
-use Rattle.syntax_tree.specs.Bound as bindings
 use Rattle.syntax_tree.specs.Numbers.{numbered}
 use Rattle.syntax_tree.specs.Scope.{look}
 use Rattle.emit_expr.specs.declared.draft.Emitter.{Emitter}
 use Rattle.emit_expr.specs.Names.{upvalues_at, place_in, upvalue_in}
-use Rattle.scope_laws.specs.Sight.{Sight, Part, function, Sees}
+use Rattle.scope_laws.specs.Sight.{Part, function, Sees}
 use Rattle.scope_laws.specs.Captured.{Captured}
 use Rattle.scope_laws.proofs.Capturing.{functions_capture}
 use Rattle.code_simulation.specs.Slots.{Slot}
@@ -23,7 +22,7 @@ use Rattle.code_simulation.proofs.Along.{Here}
 use Rattle.compiled_runs.proofs.Numbers.{Rising, sound, one_name}
 use Rattle.compiled_runs.proofs.Scopes.{same_some, some_none}
 use Rattle.compiled_runs.proofs.Standing as standing
-use Rattle.compiled_runs.proofs.Standing.{Script, At}
+use Rattle.compiled_runs.proofs.Standing.{Script, AtSome}
 use Rattle.compiled_runs.proofs.Nodes.{Runs}
 use Rattle.compiled_runs.proofs.Parentheses.{true_false}
 use Rattle.compiled_runs.proofs.Captures.{Named}
@@ -82,7 +81,7 @@ named_upvalue b func vs xs x k up n e c few =
 
 module _ (p : Setting) (most : ℕ) (b : Bindings) (whole : Emitter) (script : Script p b whole) (h : Here p most)
     (r : Runs p most b whole script h) (f : FuncBody) (ps : List Part) (l : List Slot) (d : Emitter)
-    (a : At p most b whole script h r (function f ∷ ps) l d) where
+    (a : AtSome p most b whole script h r (function f ∷ ps) l d) where
   pub function_sees : (after : List Part) × Sees (numbered script.main).main a.sight (function f ∷ after)
   function_sees = let s = standing.sees p most b whole script h r (function f ∷ ps) l d a in (ps ++ s.0, s.1)
 

@@ -27,8 +27,8 @@ use Rattle.code_simulation.proofs.Functions as functions
 use Rattle.code_simulation.proofs.Functions.{Child, function_same}
 use Rattle.compiled_runs.proofs.Places.{here, before}
 use Rattle.compiled_runs.proofs.Constants.{get_last, get_prefix, get_within}
-use Rattle.compiled_runs.proofs.Scopes.{Aligned}
-use Rattle.compiled_runs.proofs.Standing.{Script, At}
+use Rattle.compiled_runs.proofs.Skipped.{Partly, partly_same}
+use Rattle.compiled_runs.proofs.Standing.{Script, AtSome}
 use Rattle.compiled_runs.proofs.NodeLevels.{code_of, func_code_of}
 use Rattle.compiled_runs.proofs.Nodes.{Runs, In, reads, As}
 use Rattle.compiled_runs.proofs.Following.{parts}
@@ -139,7 +139,7 @@ module _ (p : Setting) (most : ℕ) (b : Bindings) (whole : Emitter) (script : S
   abbrev pub FunctionsCoded : Type 0
   FunctionsCoded =
       (h : Here p most) (r : Runs p most b whole script h) (f : FuncBody) (ps : List Part) (l : List Slot) (d : Emitter)
-      → (a : At p most b whole script h r (function f ∷ ps) l d) → d.draft.func ≡ r.final.func
+      → (a : AtSome p most b whole script h r (function f ∷ ps) l d) → d.draft.func ≡ r.final.func
       → (to : ℕ) → In p most b whole script h r (func_code b f to d) → (xs : List StrId) → Named a.sight.scope (upvalues_at b (out-FuncBody f).id) xs
       → (proto : ProtoOf) × Code p f (child_number b f d) (env_of p most h l) xs proto
 
@@ -151,13 +151,14 @@ module _ (p : Setting) (most : ℕ) (b : Bindings) (whole : Emitter) (script : S
       pub child : slice_get h.proto.children (length d.draft.children) ≡ Some (child_number b f d)
 
     -- where the names in scope are these, and the function captures such locals
-    pub closure_at : (f : FuncBody) (to : ℕ) (vs : List Visible) (c : AreCaptured p most b whole script h r vs (upvalues_at b (out-FuncBody f).id))
-        (l : List Slot) (d : Emitter) → Aligned b r.from.scope r.from.declared l vs d.draft.variables → d.draft.func ≡ r.final.func
+    pub closure_at : (f : FuncBody) (to : ℕ) (vs : List Visible) (l : List Slot) (d : Emitter)
+        → (q : Partly b r.from.scope r.from.declared l vs d.draft.variables)
+        → (c : AreCaptured p most b whole script h r q.hidden vs (upvalues_at b (out-FuncBody f).id)) → d.draft.func ≡ r.final.func
         → In p most b whole script h r (func_code b f to d)
-        → ClosureAt f to l (names p most b whole script h r vs (upvalues_at b (out-FuncBody f).id) c) d (func_code b f to d)
-    closure_at f to vs c l d aligned func s =
+        → ClosureAt f to l (names p most b whole script h r q.hidden vs (upvalues_at b (out-FuncBody f).id) c) d (func_code b f to d)
+    closure_at f to vs l d q c func s =
         let ks = upvalues_at b (out-FuncBody f).id in
-        let xs = names p most b whole script h r vs ks c in
+        let xs = names p most b whole script h r q.hidden vs ks c in
         let d1 = closed b f to d in
         let d2 = numbered_child b f to d in
         let d3 = capturing b f to d in
@@ -185,8 +186,9 @@ module _ (p : Setting) (most : ℕ) (b : Bindings) (whole : Emitter) (script : S
               (subst (λ m. functions.Captures p most h l xs m (here d3)) (here_child b (length (finished b f d).protos) d1)
               (subst (λ us. In p most b whole script h r (captures b us d2) → functions.Captures p most h l xs (here d2) (here (captures b us d2)))
               (sym listed)
-              (all_captured p most b whole script h r vs ks c l d2
-              (subst (Aligned b r.from.scope r.from.declared l vs) (sym (child_keeps b f to d)) aligned) (child_func b f to d ∙ func)) in3));
+              (all_captured p most b whole script h r vs ks l d2
+              (partly_same b r.from.scope r.from.declared l vs vs d.draft.variables d2.draft.variables refl (child_keeps b f to d) q) c
+              (child_func b f to d ∙ func)) in3));
           child = ap (λ xs. slice_get xs n) r.children ∙ found;
         }
 
@@ -201,15 +203,16 @@ module _ (p : Setting) (most : ℕ) (b : Bindings) (whole : Emitter) (script : S
       pub captures : functions.Captures p most h l captured behind (here d')
       pub child : Child p most h l f place (child_number b f d) captured proto
 
-    pub closure_stands : (f : FuncBody) (ps : List Part) (l : List Slot) (d : Emitter) → At p most b whole script h r (function f ∷ ps) l d
+    pub closure_stands : (f : FuncBody) (ps : List Part) (l : List Slot) (d : Emitter) → AtSome p most b whole script h r (function f ∷ ps) l d
         → d.draft.func ≡ r.final.func → In p most b whole script h r (func_code b f (length l) d)
         → ClosureStands f l d (func_code b f (length l) d)
     closure_stands f ps l d a func s =
         let ks = upvalues_at b (out-FuncBody f).id in
         let c = are_captured p most b whole script h r f ps l d a in
-        let xs = names p most b whole script h r a.sight.scope ks c in
-        let code = coded h r f ps l d a func (length l) s xs (are_named p most b whole script h r a.sight.scope ks c) in
-        let x = closure_at h r f (length l) a.sight.scope c l d a.aligned func s in
+        let hidden = a.aligned.partly.hidden in
+        let xs = names p most b whole script h r hidden a.sight.scope ks c in
+        let code = coded h r f ps l d a func (length l) s xs (are_named p most b whole script h r hidden a.sight.scope ks c) in
+        let x = closure_at h r f (length l) a.sight.scope l d a.aligned.partly c func s in
         record {
           place = length d.draft.children;
           proto = code.0;

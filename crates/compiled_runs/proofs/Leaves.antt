@@ -1,5 +1,5 @@
 -- Constants, names, `...`, and what stands in parentheses.
-use Rattle.std.proofs.Common.{◌≡◌, ℕ, ◌+◌, ◌≤◌, ℤ, pos, Bool, true, false, List, [], ◌∷◌, length, Option, Some, None, refl, sym, ap, ◌∙◌, arith, subst, if◌then◌else◌}
+use Rattle.std.proofs.Common.{◌≡◌, ℕ, ◌+◌, ◌≤◌, ℤ, Bool, true, false, List, length, Option, Some, None, refl, sym, ap, ◌∙◌, arith, subst, if◌then◌else◌}
 use Rattle.std.specs.Prelude.{unwrap_or, nat_eq}
 use Rattle.byte_text.specs.declared.fixed.StrId.{StrId}
 use Rattle.syntax_tree.specs.declared.bindings.Bindings.{Bindings}
@@ -11,35 +11,29 @@ use Rattle.syntax_tree.specs.declared.tree.ExprKind.TheOpen as level
 use Rattle.syntax_tree.specs.Need.{need_expr}
 use Rattle.value_model.specs.Values.{Nil, Boolean, Number, Text}
 use Rattle.source_meaning.specs.Levels.{ExprLevel}
-use Rattle.source_meaning.specs.States.{of_expr}
-use Rattle.source_meaning.specs.Expressions as expressions
 use Rattle.source_meaning.specs.Expressions.{text_of}
 use Rattle.op_words.specs.declared.chunk.Const.TheVariants as constants
 use Rattle.op_words.specs.declared.insn.Insn.TheVariants as i
 use Rattle.emit_expr.specs.declared.draft.Emitter.{Emitter}
 use Rattle.emit_expr.specs.Puts.{Step, insn, constant_place, with_constant, text_place, with_text, short, long}
-use Rattle.emit_expr.specs.Names.{bound_at, register_in, register_of, upvalue_of, name_run, own_of, is_captured}
-use Rattle.emit_expr.specs.Operators.{is_small, number_run, text_run, truth}
-use Rattle.node_code.specs.Nodes.{ExprCode, Target, NoTarget, operand_register, operand_code, operand_at, operand_run}
+use Rattle.emit_expr.specs.Names.{bound_at, register_of, upvalue_of, name_run, own_of, is_captured}
+use Rattle.emit_expr.specs.Operators.{is_small, number_run, text_run}
+use Rattle.node_code.specs.Nodes.{NoTarget, operand_register, operand_code, operand_at, operand_run}
 use Rattle.node_code.specs.Code as code
 use Rattle.node_code.specs.Code.{expr_code}
-use Rattle.scope_laws.specs.Sight.{Part, expr}
-use Rattle.code_simulation.specs.Slots.{Slot, Temp}
+use Rattle.code_simulation.specs.Slots.{Slot}
 use Rattle.code_simulation.specs.Relation.{Setting}
-use Rattle.code_simulation.proofs.Along.{CallsGo, Here, inside, env_of, Reads}
-use Rattle.code_simulation.proofs.Parts.{chosen, in_register, constant, Sight, ExprRuns, OperandRuns, Stays, CondRuns}
-use Rattle.code_simulation.proofs.Moving.{source_goes}
+use Rattle.code_simulation.proofs.Along.{CallsGo, Here, Reads}
+use Rattle.code_simulation.proofs.Parts.{in_register, constant, ExprRuns, OperandRuns, Stays}
 use Rattle.code_simulation.proofs.Values as values
 use Rattle.code_simulation.proofs.Values.{Loads, constant_same, own_operand, own_stays, local_operand, local_stays, constant_operand}
-use Rattle.code_simulation.proofs.Lists.{vararg_same, vararg_all}
 use Rattle.code_simulation.proofs.Singles.{gives_one, single_by}
-use Rattle.code_simulation.proofs.Conditions.{cond_paren}
-use Rattle.compiled_runs.proofs.Places.{here, Inside, before, before_put, here_insn, here_constant, here_text}
-use Rattle.compiled_runs.proofs.Scopes.{some_none, same_some, Found}
-use Rattle.compiled_runs.proofs.Standing.{Script, At, in_expr, Stands, local, upvalue, global, name_stands}
+use Rattle.compiled_runs.proofs.Places.{here, before_put, here_insn, here_constant, here_text}
+use Rattle.compiled_runs.proofs.Scopes.{some_none, same_some}
+use Rattle.compiled_runs.proofs.Standing.{Script, Stands, local, upvalue, global, name_stands}
 use Rattle.compiled_runs.proofs.Constants.{number_known, text_known, name_known}
-use Rattle.compiled_runs.proofs.NodeLevels.{under, code_of, need_of}
-use Rattle.compiled_runs.proofs.Nodes.{has_temp, Runs, In, Stand, reads, As, truth_cond, made, ValueRuns, made_as}
+use Rattle.compiled_runs.proofs.NodeLevels.{code_of}
+use Rattle.compiled_runs.proofs.Nodes.{has_temp, Runs, In, reads, As, truth_cond, made, ValueRuns, made_as}
 
 false_true : false ≡ true → ⊥
 false_true m = cc

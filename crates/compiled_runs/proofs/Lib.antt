@@ -2,6 +2,7 @@ pub mod Reading
 pub mod Places
 pub mod Sights
 pub mod Scopes
+pub mod Skipped
 pub mod Numbers
 pub mod Standing
 pub mod Constants
@@ -9,6 +10,7 @@ pub mod NodeLevels
 pub mod Nodes
 pub mod Leaves
 pub mod Turns
+pub mod Leaps
 pub mod Following
 pub mod Lists
 pub mod Parentheses

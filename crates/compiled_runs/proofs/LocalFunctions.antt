@@ -1,5 +1,5 @@
 -- `local function`: the closure may capture its own variable.
-use Rattle.std.proofs.Common.{◌≡◌, ℕ, suc, ◌+◌, ◌≤◌, pos, Bool, List, [], ◌∷◌, ◌++◌, length, Some, refl, sym, ap, ◌∙◌, arith, subst}
+use Rattle.std.proofs.Common.{◌≡◌, ℕ, ◌+◌, pos, Bool, List, [], ◌∷◌, ◌++◌, length, refl, sym, ap, ◌∙◌, arith, subst}
 use Rattle.byte_text.specs.declared.fixed.StrId.{StrId}
 use Rattle.syntax_tree.specs.declared.bindings.Bindings.{Bindings}
 use Rattle.syntax_tree.specs.declared.notes.Visible.{Visible}
@@ -7,29 +7,29 @@ use Rattle.syntax_tree.specs.declared.tree.FuncBody.{FuncBody, out-FuncBody}
 use Rattle.syntax_tree.specs.declared.tree.Stat.{Stat}
 use Rattle.syntax_tree.specs.declared.tree.StatKind.{out-StatKind}
 use Rattle.syntax_tree.specs.declared.tree.ExprKind.TheOpen as level
-use Rattle.syntax_tree.specs.Need.{StatNeed, need_stat}
+use Rattle.syntax_tree.specs.Need.{StatNeed}
 use Rattle.op_words.specs.Chunks.{ProtoOf}
 use Rattle.op_words.specs.declared.insn.Insn.TheVariants as i
 use Rattle.emit_expr.specs.declared.draft.Emitter.{Emitter}
 use Rattle.emit_expr.specs.Puts.{declare}
 use Rattle.emit_expr.specs.Names.{first_at, upvalues_at}
-use Rattle.emit_laws.specs.Growing.{Grows}
 use Rattle.emit_laws.proofs.Grows as grows
 use Rattle.emit_laws.proofs.Keeps as keeps
-use Rattle.node_code.specs.Code.{stat_code, func_code}
+use Rattle.node_code.specs.Code.{func_code}
 use Rattle.scope_laws.specs.Declared.{stat_names}
-use Rattle.scope_laws.specs.Sight.{Sight, Part, stat, function, visible, StatLevel, in_stat, Within, enter}
+use Rattle.scope_laws.specs.Sight.{Part, stat, function, visible, StatLevel, in_stat, Within, enter}
 use Rattle.code_simulation.specs.Slots.{Slot, Var, up, same}
 use Rattle.code_simulation.specs.Relation.{Setting, Code}
-use Rattle.code_simulation.proofs.Along.{CallsGo, Here, env_of, Reads}
+use Rattle.code_simulation.proofs.Along.{Here, env_of, Reads}
 use Rattle.code_simulation.proofs.Functions.{Child}
 use Rattle.code_simulation.proofs.Blocks.{Jumps}
 use Rattle.code_simulation.proofs.Updates.{local_function_same}
 use Rattle.compiled_runs.proofs.Places.{here}
 use Rattle.compiled_runs.proofs.Scopes.{same_some, AllBelow, Aligned}
-use Rattle.compiled_runs.proofs.Standing.{Script, At}
+use Rattle.compiled_runs.proofs.Skipped.{complete}
+use Rattle.compiled_runs.proofs.Standing.{Script, At, weak}
 use Rattle.compiled_runs.proofs.NodeLevels.{stat_code_of, stat_need_of}
-use Rattle.compiled_runs.proofs.Nodes.{Runs, In, Stand}
+use Rattle.compiled_runs.proofs.Nodes.{Runs, In}
 use Rattle.compiled_runs.proofs.Captures.{AreCaptured, names, are_captured, are_named}
 use Rattle.compiled_runs.proofs.Functions.{child_number, closed, FunctionsCoded, ClosureAt, closure_at}
 use Rattle.compiled_runs.proofs.Statements.{Goes, Does, Performs}
@@ -71,21 +71,24 @@ module _ (p : Setting) (most : ℕ) (b : Bindings) (whole : Emitter) (script : S
     declared_func : with_variable.draft.func ≡ r.final.func
     declared_func = (grows.declared (first_at b s.id) (length l) d d (grows.none d)).func ∙ same_func
 
-    captured : AreCaptured p most b whole script h r scope (upvalues_at b (out-FuncBody func).id)
+    captured : AreCaptured p most b whole script h r [] scope (upvalues_at b (out-FuncBody func).id)
     unfolding inner
-    captured = are_captured p most b whole script h r func [] (slots 0) with_variable (inner 0)
+    captured = are_captured p most b whole script h r func [] (slots 0) with_variable
+        (weak p most b whole script h r (function func ∷ []) (slots 0) with_variable (inner 0))
 
     abbrev captured_names : List StrId
-    captured_names = names p most b whole script h r scope (upvalues_at b (out-FuncBody func).id) captured
+    captured_names = names p most b whole script h r [] scope (upvalues_at b (out-FuncBody func).id) captured
 
     closure : (c : ℕ) → ClosureAt p most b whole script h r func (length l) (slots c) captured_names with_variable (func_code b func (length l) with_variable)
-    closure c = closure_at p most b whole script h r func (length l) scope captured (slots c) with_variable (made c).aligned declared_func inside
+    closure c =
+        closure_at p most b whole script h r func (length l) scope (slots c) with_variable
+        (complete b r.from.scope r.from.declared (slots c) scope with_variable.draft.variables (made c).aligned) captured declared_func inside
 
     code : (c : ℕ) → (proto : ProtoOf) × Code p func (child_number b func with_variable) (env_of p most h (slots c)) captured_names proto
     unfolding inner
     code c =
-        coded h r func [] (slots c) with_variable (inner c) declared_func (length l) inside captured_names
-        (are_named p most b whole script h r scope (upvalues_at b (out-FuncBody func).id) captured)
+        coded h r func [] (slots c) with_variable (weak p most b whole script h r (function func ∷ []) (slots c) with_variable (inner c)) declared_func
+        (length l) inside captured_names (are_named p most b whole script h r [] scope (upvalues_at b (out-FuncBody func).id) captured)
 
     child : (c : ℕ) → Child p most h (slots c) func (length with_variable.draft.children) (child_number b func with_variable) captured_names (code 0).0
     child c = record {

@@ -1,9 +1,8 @@
 -- `local`: its values become variables where they stand.
-use Rattle.std.proofs.Common.{◌≡◌, ℕ, zero, suc, ◌+◌, ◌-◌, ◌<◌, ◌≤◌, ◌^◌, Bool, List, [], ◌∷◌, ◌++◌, length, map, max, Option, Some, None, refl, sym, ap, ◌∙◌, arith, subst, append-nil, append_assoc}
+use Rattle.std.proofs.Common.{◌≡◌, ℕ, zero, suc, ◌+◌, ◌-◌, ◌<◌, ◌≤◌, ◌^◌, Bool, List, [], ◌∷◌, ◌++◌, length, map, max, Some, refl, sym, ap, ◌∙◌, arith, subst, append-nil, append_assoc}
 use Rattle.std.specs.Prelude.{slice_get, unwrap_or}
 use Rattle.byte_text.specs.declared.fixed.StrId.{StrId}
 use Rattle.syntax_tree.specs.declared.bindings.Bindings.{Bindings}
-use Rattle.syntax_tree.specs.declared.notes.Place.{Place}
 use Rattle.syntax_tree.specs.declared.notes.Visible.{Visible}
 use Rattle.syntax_tree.specs.declared.tree.Expr.{Expr}
 use Rattle.syntax_tree.specs.declared.tree.Stat.{Stat}
@@ -12,33 +11,32 @@ use Rattle.syntax_tree.specs.declared.tree.ExprKind.TheOpen as level
 use Rattle.syntax_tree.specs.Need.{StatNeed, need_expr, need_stat, list_from}
 use Rattle.syntax_tree.specs.Numbers.{numbered}
 use Rattle.emit_expr.specs.declared.draft.Emitter.{Emitter}
-use Rattle.emit_expr.specs.declared.draft.Loop.{Loop}
 use Rattle.emit_expr.specs.declared.draft.Variable.{Variable}
 use Rattle.emit_expr.specs.Puts.{declare}
 use Rattle.emit_expr.specs.Names.{first_at, is_captured, next_number, declare_all}
 use Rattle.emit_laws.proofs.Grows as grows
 use Rattle.emit_laws.proofs.Keeps as keeps
-use Rattle.node_code.specs.Code.{expr_code, stat_code, local_run}
+use Rattle.node_code.specs.Code.{expr_code, local_run}
 use Rattle.node_code.specs.Lists.{exact_run}
 use Rattle.scope_laws.specs.Declared.{own_names, stat_names, node_of}
-use Rattle.scope_laws.specs.Sight.{Sight, Part, expr, stat, function, visible, StatLevel, stat_shows, shows, behind, in_stat, in_part, next, Sees}
+use Rattle.scope_laws.specs.Sight.{Sight, Part, expr, stat, visible, StatLevel, stat_shows, behind, in_stat, next, Sees}
 use Rattle.scope_laws.proofs.Seen.{nodes_have_firsts}
 use Rattle.scope_laws.proofs.Told.{declared_have_entries}
-use Rattle.code_simulation.specs.Slots.{Slot, Var, vars, Above}
+use Rattle.code_simulation.specs.Slots.{Slot, Var, vars}
 use Rattle.code_simulation.specs.Relation.{Setting}
 use Rattle.code_simulation.proofs.Along.{Here}
 use Rattle.code_simulation.proofs.Names.{above_vars, length_vars}
 use Rattle.code_simulation.proofs.Blocks.{Jumps, StatRuns}
 use Rattle.code_simulation.proofs.Statements.{local_same}
-use Rattle.compiled_runs.proofs.Places.{here, Inside, before}
+use Rattle.compiled_runs.proofs.Places.{here, before}
 use Rattle.compiled_runs.proofs.Sights.{deep}
 use Rattle.compiled_runs.proofs.Scopes.{AllBelow, below_later, below_one, Aligned, declared}
 use Rattle.compiled_runs.proofs.Numbers.{own_declared}
 use Rattle.compiled_runs.proofs.Constants.{get_within}
-use Rattle.compiled_runs.proofs.Standing.{Script, At, sees}
+use Rattle.compiled_runs.proofs.Standing.{Script, weak, At, sees}
 use Rattle.compiled_runs.proofs.NodeLevels.{stat_code_of, stat_need_of}
 use Rattle.compiled_runs.proofs.Nodes.{Runs, In, Stand}
-use Rattle.compiled_runs.proofs.Statements.{InLoop, Allowed, Goes, Does, Performs, in_statement}
+use Rattle.compiled_runs.proofs.Statements.{Begins, Goes, Does, Performs, in_statement}
 use Rattle.compiled_runs.proofs.Lists.{AllHold, exact_alone}
 
 -- ---- new variables
@@ -191,7 +189,7 @@ module _ (p : Setting) (most : ℕ) (b : Bindings) (whole : Emitter) (script : S
 
     local_runs : (s : Stat) (xs : List StrId) (es : List Expr) (ps : List Part) (l : List Slot) (d : Emitter) (j : Jumps)
         → out-StatKind s.kind ≡ level.Local xs es → AllHold p most b whole script es
-        → Stand p most b whole script h r (stat s ∷ ps) l d (local_run b (length xs) (map (expr_code b) es) s.id (length l) d) (need_stat s).need
+        → Begins p most b whole script h r (stat s ∷ ps) l d (local_run b (length xs) (map (expr_code b) es) s.id (length l) d) (need_stat s).need
         → Goes p most b whole script s (length xs) h r ps l j d (local_run b (length xs) (map (expr_code b) es) s.id (length l) d)
     local_runs s xs es ps l d j is holds st =
         let codes = map (expr_code b) es in
@@ -205,7 +203,8 @@ module _ (p : Setting) (most : ℕ) (b : Bindings) (whole : Emitter) (script : S
         let room = st.room in
         let begun : Stand p most b whole script h r (map expr es) l d d1 (list_from 0 (map need_expr es)) =
         record {
-          at = in_statement p most b whole script h r s (level.Local xs es) ps l d is st.at refl (omega arith) refl;
+          at = weak p most b whole script h r (map expr es) l d
+              (in_statement p most b whole script h r s (level.Local xs es) ps l d is st.at refl (omega arith) refl);
           inside = first;
           func = st.func;
           room = omega (arith, room, needed);

@@ -1,5 +1,5 @@
 -- `while`, `break` and `continue`.
-use Rattle.std.proofs.Common.{◌≡◌, ℕ, zero, suc, ◌+◌, ◌<◌, ◌≤◌, ℤ, pos, max, Bool, true, false, List, [], ◌∷◌, ◌++◌, length, map, Option, Some, None, refl, sym, ap, ◌∙◌, arith, subst, if◌then◌else◌}
+use Rattle.std.proofs.Common.{◌≡◌, ℕ, zero, suc, ◌+◌, ◌<◌, ◌≤◌, ℤ, pos, max, Bool, true, false, List, [], ◌∷◌, ◌++◌, length, map, Some, refl, sym, ap, ◌∙◌, arith, subst, if◌then◌else◌}
 use Rattle.syntax_tree.specs.declared.bindings.Bindings.{Bindings}
 use Rattle.syntax_tree.specs.declared.notes.Place.{Place}
 use Rattle.syntax_tree.specs.declared.tree.Expr.{Expr}
@@ -22,16 +22,15 @@ use Rattle.emit_expr.specs.declared.draft.Emitter.{Emitter}
 use Rattle.emit_expr.specs.declared.draft.Loop.{Loop}
 use Rattle.emit_expr.specs.declared.draft.Mark.{Mark}
 use Rattle.emit_expr.specs.Puts.{label, place, branch, forget, mark_at}
-use Rattle.emit_expr.specs.Names.{close_run, ended}
+use Rattle.emit_expr.specs.Names.{close_run}
 use Rattle.emit_laws.specs.Growing.{Prefix, Grows}
 use Rattle.emit_laws.proofs.Grows as grows
 use Rattle.emit_laws.proofs.Keeps as keeps
-use Rattle.node_code.specs.Nodes.{StatCode}
 use Rattle.node_code.specs.Code.{expr_code, stat_code, body_run, in_turn, loop_at, while_run}
 use Rattle.scope_laws.specs.Sight.{Part, expr, stat, block}
 use Rattle.code_simulation.specs.Slots.{Slot, Above, same}
 use Rattle.code_simulation.specs.Relation.{Dyn, Setting}
-use Rattle.code_simulation.proofs.Along.{Alike, File, Here, inside, env_of, waits_here, Reads, source_at, Has, Same, SameIn}
+use Rattle.code_simulation.proofs.Along.{File, Here, inside, env_of, waits_here, Reads, source_at, Has, Same, SameIn}
 use Rattle.code_simulation.proofs.Parts.{chosen, CondRuns}
 use Rattle.code_simulation.proofs.Names.{above_all}
 use Rattle.code_simulation.proofs.World.{holds_later}
@@ -39,11 +38,11 @@ use Rattle.code_simulation.proofs.Moving.{source_goes}
 use Rattle.code_simulation.proofs.Blocks.{Jumps, outside, breaking, looping, Backward, StatRuns, Closes, closes_same, stat_row, break_same, break_alone_same, continue_same}
 use Rattle.code_simulation.proofs.Loops.{turn_back}
 use Rattle.code_simulation.proofs.Repeats.{UntilRuns, until_none, until_early}
-use Rattle.compiled_runs.proofs.Places.{here, Inside, before, before_put, here_place, label_read, rises}
-use Rattle.compiled_runs.proofs.Standing.{Script, At, kept, next_expr}
+use Rattle.compiled_runs.proofs.Places.{here, before, before_put, here_place, label_read, rises}
+use Rattle.compiled_runs.proofs.Standing.{Script, weak, At, kept, next_expr}
 use Rattle.compiled_runs.proofs.NodeLevels.{stat_code_of, stat_need_of, stat_rules_of, ends_turn_of}
-use Rattle.compiled_runs.proofs.Nodes.{Runs, In, Stand, As, jump_at}
-use Rattle.compiled_runs.proofs.Statements.{variables_in, may_break, may_continue, Allowed, Leads, InLoop, Goes, Does, Performs, AllPerform, in_statement, plain_goes}
+use Rattle.compiled_runs.proofs.Nodes.{Runs, In, As, jump_at}
+use Rattle.compiled_runs.proofs.Statements.{Begins, variables_in, may_break, may_continue, Allowed, Leads, InLoop, Goes, Does, Performs, AllPerform, in_statement, plain_goes}
 use Rattle.compiled_runs.proofs.Blocks.{left_none, right_none, here_forget, inside_forget, ended_keeps, Ending, variables_at, ending, closes_at, with_live, Last, in_block}
 
 module _ (p : Setting) (most : ℕ) (b : Bindings) (whole : Emitter) (script : Script p b whole) where
@@ -252,7 +251,7 @@ module _ (p : Setting) (most : ℕ) (b : Bindings) (whole : Emitter) (script : S
   while_stands : (s : Stat) (cond : Expr) (body : List Stat) → out-StatKind s.kind ≡ level.While cond body
       → As p most b whole script cond (expr_code b cond) → AllPerform p most b whole script body
       → (h : Here p most) (r : Runs p most b whole script h) (ps : List Part) (l : List Slot) (d : Emitter) (j : Jumps) (at : Place)
-      → Stand p most b whole script h r (stat s ∷ ps) l d (while_run b (expr_code b cond) (map (stat_code b) body) s.id (length l) d) (need_stat s).need
+      → Begins p most b whole script h r (stat s ∷ ps) l d (while_run b (expr_code b cond) (map (stat_code b) body) s.id (length l) d) (need_stat s).need
       → Allowed s j at → Goes p most b whole script s 0 h r ps l j d (while_run b (expr_code b cond) (map (stat_code b) body) s.id (length l) d)
   while_stands s cond body is holds performs h r ps l d j at st allowed =
       let c = expr_code b cond in
@@ -319,7 +318,7 @@ module _ (p : Setting) (most : ℕ) (b : Bindings) (whole : Emitter) (script : S
       let cond_runs : CondRuns p most cond h l (here d) (here d1) (here d6) =
       subst (λ n. CondRuns p most cond h l n (here d1) (here d6)) e0
       (holds.cond false h r _ l d0 (label s.id 1) (here d6)
-      (record { at = inner0; inside = s1; func = g0.func ∙ st.func; room = omega (arith, room, needed) }) exits (omega (arith, r2, e3, e5, r4, r6))) in
+      (record { at = weak p most b whole script h r _ l d0 inner0; inside = s1; func = g0.func ∙ st.func; room = omega (arith, room, needed) }) exits (omega (arith, r2, e3, e5, r4, r6))) in
       let g03 : Grows d d3 = grows.after d d2 d3 (grows.after d d1 d2 (grows.after d d0 d1 g0 g1) g2) g3 in
       plain_goes p most b whole script s (level.While cond body) h r ps l j d d7 is (λ n. refl)
       (keeps.put _ d d6 (keeps.put _ d d5 (ended_keeps b m d d3 refl g03.variables))) st.at

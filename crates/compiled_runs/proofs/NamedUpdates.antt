@@ -40,16 +40,16 @@ use Rattle.code_simulation.proofs.Blocks.{Jumps, StatRuns}
 use Rattle.code_simulation.proofs.Updates.{StoreRuns, store_name, Finishes, finish_stored, compound_copied, compound_upvalue, compound_global}
 use Rattle.code_simulation.proofs.Compounds.{finish_joined, finish_joined_local}
 use Rattle.compiled_runs.proofs.Places.{here, before, before_put, here_text}
-use Rattle.compiled_runs.proofs.Standing.{Script, At, pushed, kept, next_expr, Stands, local, upvalue, global, name_stands}
+use Rattle.compiled_runs.proofs.Standing.{Script, weak, At, pushed, kept, next_expr, Stands, local, upvalue, global, name_stands}
 use Rattle.compiled_runs.proofs.Constants.{name_known}
 use Rattle.compiled_runs.proofs.NodeLevels.{code_of, stat_code_of, stat_need_of}
-use Rattle.compiled_runs.proofs.Nodes.{Runs, In, Stand, reads}
+use Rattle.compiled_runs.proofs.Nodes.{Runs, In, reads}
 use Rattle.compiled_runs.proofs.Leaves.{Holds}
 use Rattle.compiled_runs.proofs.Following.{value_grows}
 use Rattle.compiled_runs.proofs.Operators.{IsArithmetic, add_is, sub_is, mul_is, div_is, idiv_is, mod_is, pow_is}
 use Rattle.compiled_runs.proofs.Parentheses.{false_true}
 use Rattle.compiled_runs.proofs.Assigns.{writes_at}
-use Rattle.compiled_runs.proofs.Statements.{Does, Performs, in_statement, plain_goes}
+use Rattle.compiled_runs.proofs.Statements.{Begins, Does, Performs, in_statement, plain_goes}
 use Rattle.compiled_runs.proofs.Compounds.{IsUpdate, own_by, sees_by, last_by, operand_by, operates_by, local_found, operated_keeps, local_keeps, compound_performs, add_updates, sub_updates, mul_updates, div_updates, idiv_updates, mod_updates, pow_updates}
 
 -- the operators of compound assignments
@@ -104,7 +104,12 @@ module _ (p : Setting) (most : ℕ) (calls : (i : ℕ) → i ≤ most → CallsG
         → OperandRuns p most y h (Temp u ∷ l) (here d) (here (c.run m 2 d)) true (in_register (suc n))) one
         (λ s. own_operand p most y h (Temp u ∷ l) (here d) (here (c.run (suc n) 2 d))
         (hy.value h r [] (Temp u ∷ l) d
-        (record { at = pushed p most b whole script h r (expr y ∷ []) l d a u; inside = s; func = func; room = omega (arith, room) })))
+        (record {
+          at = weak p most b whole script h r (expr y ∷ []) (Temp u ∷ l) d (pushed p most b whole script h r (expr y ∷ []) l d a u);
+          inside = s;
+          func = func;
+          room = omega (arith, room);
+        })))
         s
 
     joined_reads : (to : ℕ) (d : Emitter) → In p most b whole script h r (joined c to n d)
@@ -148,7 +153,7 @@ module _ (p : Setting) (most : ℕ) (calls : (i : ℕ) → i ≤ most → CallsG
 
     joined_goes : (t : Expr) (x : StrId) (k : ℕ) → out-StatKind s.kind ≡ level.Compound op.Concat t y → out-ExprKind t.kind ≡ level.Name x
         → bound_at b t.id ≡ bound.Local k → (ps : List Part) (d : Emitter) (j : Jumps)
-        → Stand p most b whole script h r (stat s ∷ ps) l d (joined c (register_of k d) n (insn (insns.Move n (register_of k d)) d)) (need_stat s).need
+        → Begins p most b whole script h r (stat s ∷ ps) l d (joined c (register_of k d) n (insn (insns.Move n (register_of k d)) d)) (need_stat s).need
         → StatRuns p most s h l j (here d) (here (joined c (register_of k d) n (insn (insns.Move n (register_of k d)) d))) (λ c. l)
     joined_goes t x k is name bound_to ps d j st =
         let m = register_of k d in
@@ -213,7 +218,7 @@ module _ (p : Setting) (most : ℕ) (calls : (i : ℕ) → i ≤ most → CallsG
   outer_goes : (o : BinOp) → Computing o → (s : Stat) (t y : Expr) (x : StrId) → out-StatKind s.kind ≡ level.Compound o t y
       → out-ExprKind t.kind ≡ level.Name x → IsOuter (bound_at b t.id) → Holds p most calls b whole script y
       → (h : Here p most) (r : Runs p most b whole script h) (ps : List Part) (l : List Slot) (d : Emitter) (j : Jumps)
-      → Stand p most b whole script h r (stat s ∷ ps) l d (outer_run o y (bound_at b t.id) x (length l) d) (need_stat s).need
+      → Begins p most b whole script h r (stat s ∷ ps) l d (outer_run o y (bound_at b t.id) x (length l) d) (need_stat s).need
       → StatRuns p most s h l j (here d) (here (outer_run o y (bound_at b t.id) x (length l) d)) (λ c. l)
   outer_goes o k s t y x is name outer hy h r ps l d j st =
       let u = bound_at b t.id in
@@ -271,7 +276,7 @@ module _ (p : Setting) (most : ℕ) (calls : (i : ℕ) → i ≤ most → CallsG
         (subst (keeps.Keeps d) (sym code) (outer_keeps o y u x (length l) d)) st.at
         (subst (λ (e : Emitter). StatRuns p most s h l j (here d) (here e) (λ c. l)) (sym code)
         (outer_goes o k s t y x is name outer hy h r ps l d j
-        (subst (λ (e : Emitter). Stand p most b whole script h r (stat s ∷ ps) l d e (need_stat s).need) code st)));
+        (subst (λ (e : Emitter). Begins p most b whole script h r (stat s ∷ ps) l d e (need_stat s).need) code st)));
   })
 
   local_performs : (o : BinOp) → Computing o → (s : Stat) (t y : Expr) (x : StrId) (k : ℕ) → out-StatKind s.kind ≡ level.Compound o t y
@@ -286,7 +291,7 @@ module _ (p : Setting) (most : ℕ) (calls : (i : ℕ) → i ≤ most → CallsG
         (local_keeps p most calls b whole script (is_captured b k) y op.Concat (register_of k d) (length l) d) st.at
         (subst (λ (e : Emitter). StatRuns p most s h l j (here d) (here e) (λ c. l)) (sym code)
         (joined_goes s y hy h r l t x k is name bound_to ps d j
-        (subst (λ (e : Emitter). Stand p most b whole script h r (stat s ∷ ps) l d e (need_stat s).need) code st)));
+        (subst (λ (e : Emitter). Begins p most b whole script h r (stat s ∷ ps) l d e (need_stat s).need) code st)));
   })
 
   -- a compound assignment to a name

@@ -11,7 +11,7 @@ use Rattle.syntax_tree.specs.Need as need
 use Rattle.syntax_tree.specs.Need.{ExprNeed, StatNeed, need_expr, need_stat, need_arm, block_from}
 use Rattle.syntax_tree.specs.Rules as rules
 use Rattle.syntax_tree.specs.Rules.{StatRules, rules_expr, rules_stat, rules_arm, ◌>>◌}
-use Rattle.node_code.specs.Nodes.{ExprCode, StatCode, ArmCode, FuncCode}
+use Rattle.node_code.specs.Nodes.{ExprCode, StatCode, ArmCode}
 use Rattle.node_code.specs.Code as code
 use Rattle.node_code.specs.Code.{expr_code, stat_code, arm_code, func_code, func_run}
 use Rattle.scope_laws.specs.Sight.{ExprLevel, StatLevel}

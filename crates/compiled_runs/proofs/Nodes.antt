@@ -1,26 +1,22 @@
 -- What is shown of the code of an expression: where it stands, the expression's run goes along with it.
-use Rattle.std.proofs.Common.{◌≡◌, ℕ, ◌+◌, ◌≤◌, ℤ, pos, Bool, true, false, List, [], ◌∷◌, length, Option, Some, None, refl, sym, ap, ◌∙◌, arith, subst}
-use Rattle.std.specs.Prelude.{unwrap_or}
+use Rattle.std.proofs.Common.{◌≡◌, ℕ, ◌+◌, ◌≤◌, ℤ, pos, Bool, true, false, List, ◌∷◌, length, Option, Some, None, sym, ap, ◌∙◌, arith}
 use Rattle.syntax_tree.specs.declared.bindings.Bindings.{Bindings}
 use Rattle.syntax_tree.specs.declared.tree.Expr.{Expr}
 use Rattle.syntax_tree.specs.Need.{need_expr}
 use Rattle.value_model.specs.Values.{Number}
 use Rattle.op_words.specs.declared.insn.Insn.{Insn as Instruction}
 use Rattle.op_words.specs.declared.insn.Insn.TheVariants as insn
-use Rattle.op_words.specs.Encoding.{encoded}
 use Rattle.code_link.specs.Labels.{place_in}
 use Rattle.code_link.specs.Linking.{jumping}
 use Rattle.emit_expr.specs.declared.draft.Emitter.{Emitter}
 use Rattle.emit_expr.specs.Puts.{Step, branch}
 use Rattle.emit_expr.specs.Puts as puts
 use Rattle.emit_expr.specs.Operators.{truth}
-use Rattle.emit_laws.specs.Growing.{Grows}
-use Rattle.emit_laws.proofs.Grows as grows
-use Rattle.node_code.specs.Nodes.{ExprCode, Target, NoTarget, operand_at, operand_run, jump_on}
+use Rattle.node_code.specs.Nodes.{ExprCode, Target, operand_at, operand_run, jump_on}
 use Rattle.scope_laws.specs.Sight.{Part, expr}
-use Rattle.code_simulation.specs.Slots.{Slot, Temp}
+use Rattle.code_simulation.specs.Slots.{Slot}
 use Rattle.code_simulation.specs.Relation.{Setting}
-use Rattle.code_simulation.proofs.Along.{CallsGo, Here, Reads}
+use Rattle.code_simulation.proofs.Along.{Here, Reads}
 use Rattle.code_simulation.proofs.Parts.{Forward, chosen, in_register, constant, ExprRuns, OperandRuns, Stays, CondRuns, AllRuns}
 use Rattle.code_simulation.proofs.Blocks.{Backward}
 use Rattle.code_simulation.proofs.Registers.{wanted}
@@ -28,9 +24,8 @@ use Rattle.code_simulation.proofs.Values.{own_operand, own_stays}
 use Rattle.code_simulation.proofs.Lists.{IsSingle}
 use Rattle.code_simulation.proofs.Conditions.{cond_if, cond_unless}
 use Rattle.compiled_runs.proofs.Reading.{leads_on, leads_to}
-use Rattle.compiled_runs.proofs.Places.{here, Inside, before, before_put, here_insn, here_branch, insn_read, branch_read}
-use Rattle.compiled_runs.proofs.Scopes.{some_none}
-use Rattle.compiled_runs.proofs.Standing.{Script, Running, At}
+use Rattle.compiled_runs.proofs.Places.{here, Inside, before_put, here_branch, insn_read, branch_read}
+use Rattle.compiled_runs.proofs.Standing.{Script, Running, AtSome}
 
 -- whether an operand's value has a register of its own
 abbrev pub has_temp : Option ℕ → Bool
@@ -46,7 +41,7 @@ module _ (p : Setting) (most : ℕ) (b : Bindings) (whole : Emitter) (script : S
 
   -- a part stands at a place, where its code is what the second state has beyond the first, and there are registers for it
   pub record Stand (h : Here p most) (r : Runs h) (ps : List Part) (l : List Slot) (d d' : Emitter) (need : ℕ) : Type 0 where
-    pub at : At p most b whole script h r ps l d
+    pub at : AtSome p most b whole script h r ps l d
     pub inside : In h r d'
     pub func : d.draft.func ≡ r.final.func
     pub room : length l + need ≤ h.proto.registers

@@ -1,5 +1,5 @@
 -- The locals in scope have numbers that rise, below the number of locals declared so far: so each has one name.
-use Rattle.std.proofs.Common.{◌≡◌, ℕ, ◌+◌, ◌<◌, ◌≤◌, ◌==◌, Bool, true, false, List, [], ◌∷◌, ◌++◌, length, map, Option, Some, None, refl, sym, ap, ◌∙◌, arith, subst, append-nil, append_assoc, ◌⊎◌, inl, inr, ⊎_elim}
+use Rattle.std.proofs.Common.{◌≡◌, ℕ, ◌+◌, ◌<◌, ◌≤◌, ◌==◌, Bool, true, false, List, [], ◌∷◌, ◌++◌, length, map, Option, Some, None, refl, sym, ap, ◌∙◌, arith, subst, append-nil, ◌⊎◌, inl, inr, ⊎_elim}
 use Rattle.std.proofs.lemmas.Bool.{eqb-true}
 use Rattle.byte_text.specs.declared.fixed.StrId.{StrId}
 use Rattle.syntax_tree.specs.declared.notes.Visible.{Visible}
@@ -12,9 +12,8 @@ use Rattle.syntax_tree.specs.declared.tree.FuncBody.{FuncBody, out-FuncBody}
 use Rattle.syntax_tree.specs.declared.tree.Stat.{Stat}
 use Rattle.syntax_tree.specs.declared.tree.StatKind.{out-StatKind}
 use Rattle.syntax_tree.specs.Scope.{look, unless_later}
-use Rattle.scope_laws.specs.Sight.{Sight, Part, expr, stat, function, arm, expr_arm, field, block, ExprLevel, FieldLevel, StatLevel, visible, stat_shows, shows, declares, behind, with_names, step, else_block, expr_parts, field_parts, in_stat, in_part, Within, itself, next, enter, Sees, nothing}
+use Rattle.scope_laws.specs.Sight.{Sight, Part, expr, stat, function, arm, expr_arm, field, block, ExprLevel, FieldLevel, StatLevel, visible, stat_shows, shows, behind, step, else_block, expr_parts, field_parts, in_stat, in_part, itself, next, enter, Sees}
 use Rattle.scope_laws.proofs.Counts.{part_count}
-use Rattle.scope_laws.proofs.Behind.{all_declare}
 use Rattle.compiled_runs.proofs.Sights.{AreFrom}
 use Rattle.compiled_runs.proofs.Scopes.{same_some, some_none}
 

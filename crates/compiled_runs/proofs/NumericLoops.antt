@@ -1,5 +1,5 @@
 -- A numeric `for`: its limit, step and index stand in three registers, and its variable in the next.
-use Rattle.std.proofs.Common.{◌≡◌, ℕ, suc, ◌+◌, ◌-◌, ◌≤◌, ℤ, pos, max, Bool, List, [], ◌∷◌, ◌++◌, length, map, Option, Some, None, refl, sym, ap, ◌∙◌, arith, subst, append-nil}
+use Rattle.std.proofs.Common.{◌≡◌, ℕ, suc, ◌+◌, ◌≤◌, ℤ, pos, max, Bool, List, [], ◌∷◌, ◌++◌, length, map, Option, Some, None, refl, sym, ap, ◌∙◌, arith, subst, append-nil}
 use Rattle.byte_text.specs.declared.fixed.StrId.{StrId}
 use Rattle.syntax_tree.specs.declared.bindings.Bindings.{Bindings}
 use Rattle.syntax_tree.specs.declared.notes.Place.{Place}
@@ -16,33 +16,33 @@ use Rattle.source_meaning.specs.States.{of_stat}
 use Rattle.op_words.specs.declared.insn.Insn.TheVariants as i
 use Rattle.emit_expr.specs.declared.draft.Emitter.{Emitter}
 use Rattle.emit_expr.specs.Puts.{insn, label, place, branch, declare, forget, mark_at}
-use Rattle.emit_expr.specs.Names.{first_at, close_run, declare_all}
+use Rattle.emit_expr.specs.Names.{first_at, close_run}
 use Rattle.emit_laws.specs.Growing.{Prefix, Grows}
 use Rattle.emit_laws.proofs.Grows as grows
 use Rattle.emit_laws.proofs.Keeps as keeps
-use Rattle.node_code.specs.Nodes.{ExprCode, operand_at, operand_run}
-use Rattle.node_code.specs.Code.{expr_code, stat_code, body_run, loop_at, copied, bounds_run, for_begin, turns_run, for_end, num_for_run}
+use Rattle.node_code.specs.Nodes.{operand_at, operand_run}
+use Rattle.node_code.specs.Code.{expr_code, stat_code, body_run, loop_at, num_for_run}
 use Rattle.scope_laws.specs.Declared.{stat_names}
-use Rattle.scope_laws.specs.Sight.{Sight, Part, expr, stat, function, block, visible, StatLevel, behind, in_stat, in_part, step, Within, next, enter}
+use Rattle.scope_laws.specs.Sight.{Sight, Part, expr, stat, function, block, visible, StatLevel, behind, in_stat, in_part, Within, next, enter}
 use Rattle.code_simulation.specs.Slots.{Slot, Var, Temp, up, same}
 use Rattle.code_simulation.specs.Relation.{Setting}
 use Rattle.code_simulation.proofs.Along.{CallsGo, Here, Reads}
 use Rattle.code_simulation.proofs.Parts.{in_register, ExprRuns, OperandRuns}
 use Rattle.code_simulation.proofs.Values.{Loads, loads_number}
-use Rattle.code_simulation.proofs.Blocks.{Jumps, StatRuns, Closes}
+use Rattle.code_simulation.proofs.Blocks.{Jumps, Closes}
 use Rattle.code_simulation.proofs.Repeats.{UntilRuns}
 use Rattle.code_simulation.proofs.Numeric.{three}
 use Rattle.code_simulation.proofs.Bounds.{LoopRuns}
 use Rattle.compiled_runs.proofs.Places.{here, before, before_put, here_place, label_read, rises}
 use Rattle.compiled_runs.proofs.Scopes.{AllBelow, below_later, Aligned}
-use Rattle.compiled_runs.proofs.Standing.{Script, At, pushed, kept, next_expr}
+use Rattle.compiled_runs.proofs.Standing.{Script, weak, At, pushed, kept, next_expr}
 use Rattle.compiled_runs.proofs.NodeLevels.{stat_code_of, stat_need_of, stat_rules_of}
-use Rattle.compiled_runs.proofs.Nodes.{Runs, In, Stand, has_temp, reads, jump_at}
+use Rattle.compiled_runs.proofs.Nodes.{Runs, In, has_temp, reads, jump_at}
 use Rattle.compiled_runs.proofs.Leaves.{Holds}
 use Rattle.compiled_runs.proofs.Following.{value_grows, value_keeps, operand_grows, operand_keeps}
-use Rattle.compiled_runs.proofs.Statements.{variables_in, Allowed, Goes, Does, Performs, AllPerform, in_statement, plain_goes}
-use Rattle.compiled_runs.proofs.Locals.{here_declare, Declared, flags, names_declared}
-use Rattle.compiled_runs.proofs.Blocks.{left_none, right_none, here_forget, inside_forget, ended_keeps, Ending, variables_at, ending, closes_at, Last}
+use Rattle.compiled_runs.proofs.Statements.{Begins, variables_in, Allowed, Goes, Does, Performs, AllPerform, in_statement, plain_goes}
+use Rattle.compiled_runs.proofs.Locals.{here_declare, flags, names_declared}
+use Rattle.compiled_runs.proofs.Blocks.{right_none, here_forget, inside_forget, ended_keeps, Ending, variables_at, ending, closes_at, Last}
 use Rattle.compiled_runs.proofs.Loops.{Turning, body_goes, until_weaker}
 use Rattle.compiled_runs.proofs.NumericRuns.{numbers, loop_runs, for_by_runs, for_runs}
 
@@ -101,7 +101,8 @@ module _ (p : Setting) (most : ℕ) (calls : (i : ℕ) → i ≤ most → CallsG
         subst (λ m. In p most b whole script h r ((expr_code b e).run m 2 d)
         → ExprRuns p most e h (Temp u ∷ Temp v ∷ l) (here d) (here ((expr_code b e).run m 2 d))) two
         (λ s. holds.value h r ps (Temp u ∷ Temp v ∷ l) d (record {
-          at = pushed p most b whole script h r (expr e ∷ ps) (Temp v ∷ l) d (pushed p most b whole script h r (expr e ∷ ps) l d a v) u;
+          at = weak p most b whole script h r (expr e ∷ ps) (Temp u ∷ Temp v ∷ l) d
+              (pushed p most b whole script h r (expr e ∷ ps) (Temp v ∷ l) d (pushed p most b whole script h r (expr e ∷ ps) l d a v) u);
           inside = s;
           func = func;
           room = omega (arith, room);
@@ -121,7 +122,8 @@ module _ (p : Setting) (most : ℕ) (calls : (i : ℕ) → i ≤ most → CallsG
         → OperandRuns p most e h (three v u w l) (here d) (here (operand_run (expr_code b e) m d)) (has_temp (expr_code b e).own)
         (in_register (operand_at (expr_code b e) m d))) up3
         (λ s. (holds.operand h r ps (three v u w l) d (record {
-          at = pushed p most b whole script h r (expr e ∷ ps) (Temp u ∷ Temp v ∷ l) d a2 w;
+          at = weak p most b whole script h r (expr e ∷ ps) (three v u w l) d
+              (pushed p most b whole script h r (expr e ∷ ps) (Temp u ∷ Temp v ∷ l) d a2 w);
           inside = s;
           func = func;
           room = omega (arith, room);
@@ -325,7 +327,7 @@ module _ (p : Setting) (most : ℕ) (calls : (i : ℕ) → i ≤ most → CallsG
 
     none_stands : (s : Stat) (x : StrId) (start limit : Expr) (body : List Stat) → out-StatKind s.kind ≡ level.NumFor x start limit None body
         → Holds p most calls b whole script start → Holds p most calls b whole script limit → AllPerform p most b whole script body
-        → (ps : List Part) (l : List Slot) (d : Emitter) (j : Jumps) (at : Place) → Stand p most b whole script h r (stat s ∷ ps) l d
+        → (ps : List Part) (l : List Slot) (d : Emitter) (j : Jumps) (at : Place) → Begins p most b whole script h r (stat s ∷ ps) l d
         (num_for_run b (expr_code b start) (expr_code b limit) None (map (stat_code b) body) s.id (length l) d) (need_stat s).need
         → Allowed s j at → Goes p most b whole script s 0 h r ps l j d
         (num_for_run b (expr_code b start) (expr_code b limit) None (map (stat_code b) body) s.id (length l) d)
@@ -375,7 +377,7 @@ module _ (p : Setting) (most : ℕ) (calls : (i : ℕ) → i ≤ most → CallsG
     some_stands : (s : Stat) (x : StrId) (start limit by : Expr) (body : List Stat) → out-StatKind s.kind ≡ level.NumFor x start limit (Some by) body
         → Holds p most calls b whole script start → Holds p most calls b whole script limit → Holds p most calls b whole script by
         → AllPerform p most b whole script body
-        → (ps : List Part) (l : List Slot) (d : Emitter) (j : Jumps) (at : Place) → Stand p most b whole script h r (stat s ∷ ps) l d
+        → (ps : List Part) (l : List Slot) (d : Emitter) (j : Jumps) (at : Place) → Begins p most b whole script h r (stat s ∷ ps) l d
         (num_for_run b (expr_code b start) (expr_code b limit) (Some (expr_code b by)) (map (stat_code b) body) s.id (length l) d) (need_stat s).need
         → Allowed s j at → Goes p most b whole script s 0 h r ps l j d
         (num_for_run b (expr_code b start) (expr_code b limit) (Some (expr_code b by)) (map (stat_code b) body) s.id (length l) d)

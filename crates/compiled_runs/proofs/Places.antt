@@ -1,6 +1,5 @@
 -- Where what is emitted stands in the code of its function.
-use Rattle.std.proofs.Common.{◌≡◌, ℕ, ◌+◌, ◌≤◌, ◌<◌, Bool, true, false, List, [], ◌∷◌, ◌++◌, length, Option, Some, None, refl, sym, ap, ◌∙◌, arith, subst, append_assoc}
-use Rattle.std.specs.Prelude.{slice_get}
+use Rattle.std.proofs.Common.{◌≡◌, ℕ, ◌+◌, ◌≤◌, List, [], ◌∷◌, ◌++◌, length, Some, refl, sym, ap, ◌∙◌, arith, subst, append_assoc}
 use Rattle.op_words.specs.declared.insn.Insn.{Insn as Instruction}
 use Rattle.op_words.specs.Encoding.{encoded}
 use Rattle.op_words.specs.Decoding.{insn_at}

@@ -30,12 +30,12 @@ use Rattle.code_simulation.proofs.Statements.{skips_nothing}
 use Rattle.code_simulation.proofs.Blocks.{Jumps, breaking, looping, StatRuns, Closes}
 use Rattle.code_simulation.proofs.Repeats.{UntilRuns, until_none, until_early, until_more, repeat_same}
 use Rattle.compiled_runs.proofs.Places.{here, before, before_put, here_place, label_read, rises}
-use Rattle.compiled_runs.proofs.Standing.{Script, At, kept}
+use Rattle.compiled_runs.proofs.Standing.{Script, weak, At, kept}
 use Rattle.compiled_runs.proofs.NodeLevels.{stat_code_of, stat_need_of, stat_rules_of}
-use Rattle.compiled_runs.proofs.Nodes.{Runs, In, Stand, jump_at}
+use Rattle.compiled_runs.proofs.Nodes.{Runs, In, jump_at}
 use Rattle.compiled_runs.proofs.Leaves.{Holds}
 use Rattle.compiled_runs.proofs.Turns.{any, ends_turn}
-use Rattle.compiled_runs.proofs.Statements.{variables_in, may_break, may_continue, Allowed, InLoop, Goes, Does, Performs, AllPerform, in_statement, plain_goes}
+use Rattle.compiled_runs.proofs.Statements.{Begins, variables_in, may_break, may_continue, Allowed, InLoop, Goes, Does, Performs, AllPerform, in_statement, plain_goes}
 use Rattle.compiled_runs.proofs.Blocks.{left_none, right_none, or_left, or_right, here_forget, inside_forget, ended_keeps, Ending, variables_at, ending, closes_at, with_live}
 use Rattle.compiled_runs.proofs.Loops.{Turning}
 
@@ -206,7 +206,7 @@ module _ (p : Setting) (most : ℕ) (b : Bindings) (whole : Emitter) (script : S
     repeat_stands : (s : Stat) (body : List Stat) (cond : Expr) → out-StatKind s.kind ≡ level.Repeat body cond → AllPerform p most b whole script body
         → Holds p most calls b whole script cond → EarlyTries body cond
         → (h : Here p most) (r : Runs p most b whole script h) (ps : List Part) (l : List Slot) (d : Emitter) (j : Jumps) (at : Place)
-        → Stand p most b whole script h r (stat s ∷ ps) l d (repeat_run b (map (stat_code b) body) (expr_code b cond) s.id (length l) d) (need_stat s).need
+        → Begins p most b whole script h r (stat s ∷ ps) l d (repeat_run b (map (stat_code b) body) (expr_code b cond) s.id (length l) d) (need_stat s).need
         → Allowed s j at → Goes p most b whole script s 0 h r ps l j d (repeat_run b (map (stat_code b) body) (expr_code b cond) s.id (length l) d)
     repeat_stands s body cond is performs holds early h r ps l d j at st allowed =
         let c = expr_code b cond in
@@ -295,7 +295,7 @@ module _ (p : Setting) (most : ℕ) (b : Bindings) (whole : Emitter) (script : S
               → CondRuns p most cond h l2 (here d2) (here d5) (here (c.jump true n (label s.id 3) d2))) x.count_is
               (λ s3. holds.cond true h r [] l2 d2 (label s.id 3) (here d5)
               (record {
-                at = kept p most b whole script h r (expr cond ∷ []) l2 d1 d2 k2 x.at;
+                at = weak p most b whole script h r (expr cond ∷ []) l2 d2 (kept p most b whole script h r (expr cond ∷ []) l2 d1 d2 k2 x.at);
                 inside = s3;
                 func = func2;
                 room = let size = x.count_is in omega (arith, room, needed, sum, size);

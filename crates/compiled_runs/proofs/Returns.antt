@@ -1,5 +1,5 @@
 -- `return`.
-use Rattle.std.proofs.Common.{◌≡◌, ℕ, ◌+◌, ◌≤◌, List, [], ◌∷◌, length, map, refl, sym, ap, ◌∙◌, arith, subst}
+use Rattle.std.proofs.Common.{◌≡◌, ℕ, ◌≤◌, List, length, map, refl, sym, ap, arith, subst}
 use Rattle.syntax_tree.specs.declared.bindings.Bindings.{Bindings}
 use Rattle.syntax_tree.specs.declared.tree.Expr.{Expr}
 use Rattle.syntax_tree.specs.declared.tree.Stat.{Stat}
@@ -11,14 +11,14 @@ use Rattle.emit_expr.specs.declared.draft.Emitter.{Emitter}
 use Rattle.emit_expr.specs.Puts.{insn}
 use Rattle.emit_laws.proofs.Keeps as keeps
 use Rattle.node_code.specs.Lists.{list_run, count_of}
-use Rattle.scope_laws.specs.Sight.{Part, expr, stat}
+use Rattle.scope_laws.specs.Sight.{expr}
 use Rattle.code_simulation.specs.Relation.{Setting}
-use Rattle.code_simulation.proofs.Along.{CallsGo, Here}
+use Rattle.code_simulation.proofs.Along.{CallsGo}
 use Rattle.code_simulation.proofs.Statements.{return_same}
 use Rattle.compiled_runs.proofs.Places.{here, before_put}
-use Rattle.compiled_runs.proofs.Standing.{Script}
+use Rattle.compiled_runs.proofs.Standing.{Script, weak}
 use Rattle.compiled_runs.proofs.NodeLevels.{stat_code_of, stat_need_of}
-use Rattle.compiled_runs.proofs.Nodes.{Runs, Stand, reads}
+use Rattle.compiled_runs.proofs.Nodes.{Stand, reads}
 use Rattle.compiled_runs.proofs.Lists.{AllHold, codes, list_alone}
 use Rattle.compiled_runs.proofs.Statements.{Does, Performs, in_statement, plain_goes}
 
@@ -35,7 +35,8 @@ module _ (p : Setting) (most : ℕ) (calls : (i : ℕ) → i ≤ most → CallsG
         let room = st.room in
         let begun : Stand p most b whole script h r (map expr es) l d d1 (list_need (map need_expr es)) =
         record {
-          at = in_statement p most b whole script h r s (level.Return es) ps l d is st.at refl (omega arith) refl;
+          at = weak p most b whole script h r (map expr es) l d
+              (in_statement p most b whole script h r s (level.Return es) ps l d is st.at refl (omega arith) refl);
           inside = before_put r.final whole _ d1 st.inside;
           func = st.func;
           room = omega (arith, room, needed);

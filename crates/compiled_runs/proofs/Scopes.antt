@@ -1,14 +1,12 @@
 -- The locals that a function sees, its registers, and the variables of its code: which of them stand for one another.
-use Rattle.std.proofs.Common.{◌≡◌, ℕ, ◌+◌, ◌<◌, ◌≤◌, ◌==◌, ◌^◌, Bool, true, false, zero, suc, List, [], ◌∷◌, ◌++◌, length, Option, Some, None, refl, sym, ap, ◌∙◌, arith, subst, append-nil, append_assoc, nat_eq, min, if◌then◌else◌}
-use Rattle.std.proofs.lemmas.Bool.{eq-eqb, ne_eqb, eqb-true, cases_eq}
-use Rattle.std.proofs.lemmas.Bool.Decides.{nat_tests}
+use Rattle.std.proofs.Common.{◌≡◌, ℕ, ◌<◌, ◌≤◌, ◌==◌, Bool, true, false, List, [], ◌∷◌, ◌++◌, length, Option, Some, None, refl, sym, ap, ◌∙◌, arith, subst, nat_eq, if◌then◌else◌}
+use Rattle.std.proofs.lemmas.Bool.{eq-eqb, ne_eqb}
 use Rattle.byte_text.specs.declared.fixed.StrId.{StrId}
 use Rattle.syntax_tree.specs.declared.bindings.Bindings.{Bindings}
 use Rattle.syntax_tree.specs.declared.notes.Visible.{Visible}
 use Rattle.syntax_tree.specs.Scope.{look, unless_later}
 use Rattle.emit_expr.specs.declared.draft.Variable.{Variable}
-use Rattle.emit_expr.specs.Names.{is_captured, register_in, any_captured}
-use Rattle.scope_laws.specs.Sight.{visible}
+use Rattle.emit_expr.specs.Names.{is_captured, register_in}
 use Rattle.code_simulation.specs.Slots.{Slot, Var, Temp, Local, local_at}
 
 pub same_some : {A : Type 0} {x y : A} → Some x ≡ Some y → x ≡ y
@@ -64,7 +62,7 @@ register_new k v (w ∷ ws) e h =
     ap (λ b. if b then Some w.register else register_in k (ws ++ v ∷ [])) (ne_eqb w.number k (λ z. omega (arith, z, h.0)))
     ∙ register_new k v ws e h.1
 
-register_old : (k r : ℕ) (ws more : List Variable) → register_in k ws ≡ Some r → register_in k (ws ++ more) ≡ Some r
+pub register_old : (k r : ℕ) (ws more : List Variable) → register_in k ws ≡ Some r → register_in k (ws ++ more) ≡ Some r
 register_old k r [] more e = some_none e
 register_old k r (w ∷ ws) more e = by (nat_eq w.number k) e (register_old k r ws more)
   where

@@ -1,8 +1,7 @@
 -- What is shown of the code of a statement: where it stands, the statement's run goes along with it.
-use Rattle.std.proofs.Common.{◌≡◌, ℕ, ◌+◌, ◌≤◌, Bool, true, false, List, [], ◌∷◌, ◌++◌, length, Option, Some, None, refl, sym, ap, ◌∙◌, arith, subst, append-nil}
+use Rattle.std.proofs.Common.{◌≡◌, ℕ, ◌+◌, ◌≤◌, Bool, true, false, List, [], ◌∷◌, ◌++◌, length, Some, sym, ap, ◌∙◌, arith, subst, append-nil}
 use Rattle.syntax_tree.specs.declared.bindings.Bindings.{Bindings}
 use Rattle.syntax_tree.specs.declared.notes.Place.{Place}
-use Rattle.syntax_tree.specs.declared.tree.Expr.{Expr}
 use Rattle.syntax_tree.specs.declared.tree.Stat.{Stat}
 use Rattle.syntax_tree.specs.declared.tree.StatKind.{out-StatKind}
 use Rattle.syntax_tree.specs.Need.{need_stat}
@@ -14,16 +13,16 @@ use Rattle.emit_expr.specs.declared.draft.Mark.{Mark}
 use Rattle.emit_expr.specs.Puts.{label}
 use Rattle.emit_laws.proofs.Keeps.{Keeps}
 use Rattle.node_code.specs.Nodes.{StatCode}
-use Rattle.node_code.specs.Code.{expr_code, stat_code}
-use Rattle.scope_laws.specs.Sight.{Sight, Part, expr, stat, function, block, StatLevel, stat_shows, shows, behind, in_stat, Within, next, enter}
+use Rattle.node_code.specs.Code.{stat_code}
+use Rattle.scope_laws.specs.Sight.{Part, stat, function, StatLevel, stat_shows, shows, behind, in_stat, Within, next, enter}
 use Rattle.code_simulation.specs.Slots.{Slot, Var, Temp, Above, same}
 use Rattle.code_simulation.specs.Relation.{Setting}
 use Rattle.code_simulation.proofs.Along.{Here}
 use Rattle.code_simulation.proofs.Blocks.{Jumps, outside, breaking, looping, StatRuns}
 use Rattle.compiled_runs.proofs.Places.{here}
-use Rattle.compiled_runs.proofs.Scopes.{AllBelow, below_later, Aligned}
+use Rattle.compiled_runs.proofs.Scopes.{below_later, Aligned}
 use Rattle.compiled_runs.proofs.Standing.{Script, At, kept}
-use Rattle.compiled_runs.proofs.Nodes.{Runs, Stand, As}
+use Rattle.compiled_runs.proofs.Nodes.{Runs, In}
 use Rattle.compiled_runs.proofs.Turns.{ends_turn}
 
 -- how many of the slots are variables
@@ -98,6 +97,13 @@ module _ (p : Setting) (most : ℕ) (b : Bindings) (whole : Emitter) (script : S
 
   -- ---- what is shown
 
+  -- a statement stands at a place, where its code is what the second state has beyond the first, and there are registers for it
+  pub record Begins (h : Here p most) (r : Runs p most b whole script h) (ps : List Part) (l : List Slot) (d d' : Emitter) (need : ℕ) : Type 0 where
+    pub at : At p most b whole script h r ps l d
+    pub inside : In p most b whole script h r d'
+    pub func : d.draft.func ≡ r.final.func
+    pub room : length l + need ≤ h.proto.registers
+
   -- a statement's run goes along with its code, behind which these slots are in use
   pub record Goes (s : Stat) (declares : ℕ) (h : Here p most) (r : Runs p most b whole script h) (ps : List Part) (l : List Slot) (j : Jumps)
       (d d' : Emitter) : Type 0 where
@@ -110,7 +116,7 @@ module _ (p : Setting) (most : ℕ) (b : Bindings) (whole : Emitter) (script : S
   pub record Does (s : Stat) (c : StatCode) : Type 0 where
     pub declares : c.declares ≡ (need_stat s).declares
     pub goes : (h : Here p most) (r : Runs p most b whole script h) (ps : List Part) (l : List Slot) (d : Emitter) (lp : Loop) (j : Jumps)
-        (place : Place) → Stand p most b whole script h r (stat s ∷ ps) l d (c.run (length l) lp d) (need_stat s).need
+        (place : Place) → Begins h r (stat s ∷ ps) l d (c.run (length l) lp d) (need_stat s).need
         → InLoop h r lp j l (here (c.run (length l) lp d)) → Allowed s j place → Goes s c.declares h r ps l j d (c.run (length l) lp d)
 
   -- its own code does what it does

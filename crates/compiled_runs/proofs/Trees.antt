@@ -1,5 +1,5 @@
 -- Whole scripts: each run of a script is one of the chunk of its linked functions, and the other way round.
-use Rattle.std.proofs.Common.{◌≡◌, ℕ, ◌+◌, ◌<◌, ◌≤◌, List, [], ◌∷◌, ◌++◌, length, Option, Some, None, refl, sym, ap, ◌∙◌, arith, subst, append-nil, length-append}
+use Rattle.std.proofs.Common.{◌≡◌, ℕ, ◌+◌, ◌≤◌, List, [], ◌∷◌, length, refl, sym, ap, ◌∙◌, arith, subst, append-nil, length-append}
 use Rattle.std.specs.Prelude.{unwrap_or}
 use Rattle.std.specs.List.{Contains}
 use Rattle.byte_text.specs.declared.fixed.StrId.{StrId}
@@ -20,9 +20,7 @@ use Rattle.machine_meaning.specs.Runs.{MachineRun}
 use Rattle.emit_expr.specs.declared.draft.Emitter.{Emitter}
 use Rattle.emit_expr.specs.Puts.{start}
 use Rattle.emit_expr.specs.Names.{upvalues_at}
-use Rattle.emit_laws.specs.Growing.{Prefix}
 use Rattle.node_code.specs.Code.{func_code, script_code}
-use Rattle.scope_laws.specs.Captured as scope_captured
 use Rattle.scope_laws.specs.Sight.{Sight, Part, function, itself, Sees, nothing}
 use Rattle.scope_laws.proofs.Capturing.{functions_capture}
 use Rattle.code_simulation.specs.Relation.{Setting, Code}
@@ -31,7 +29,6 @@ use Rattle.code_simulation.proofs.Blocks.{outside}
 use Rattle.code_simulation.proofs.Entering.{FuncsGo}
 use Rattle.code_simulation.proofs.Promises.{setting}
 use Rattle.code_simulation.proofs.Whole as simulated
-use Rattle.compiled_runs.proofs.Constants.{get_last, get_prefix, get_within}
 use Rattle.compiled_runs.proofs.Standing.{Script}
 use Rattle.compiled_runs.proofs.Captures.{Named}
 use Rattle.compiled_runs.proofs.Functions.{finished, child_number, its_prototype}

@@ -102,6 +102,7 @@ module _ (f : FuncBody) (k : Known) (m : ℕ) (walk : Walk (length k.notes) (fun
     walk = walk;
     same = λ i from upto. refl;
     locals = front_same (names_func f k).locals;
+    faults = front_same (names_func f k).faults;
     low =
         omega arith;
     high = omega arith;

@@ -102,6 +102,12 @@ locals_new xs k = ap (λ (t : Known). t.locals) (locals_known xs k)
 pub locals_notes : (xs : List StrId) (k : Known) → (locals xs k).notes ≡ k.notes
 locals_notes xs k = ap (λ (t : Known). t.notes) (locals_known xs k)
 
+pub locals_faults : (xs : List StrId) (k : Known) → (locals xs k).faults ≡ k.faults
+locals_faults xs k = ap (λ (t : Known). t.faults) (locals_known xs k)
+
+pub locals_leaps : (xs : List StrId) (k : Known) → (locals xs k).leaps ≡ k.leaps
+locals_leaps xs k = ap (λ (t : Known). t.leaps) (locals_known xs k)
+
 pub locals_scope : (xs : List StrId) (k : Known) → (locals xs k).scope ≡ k.scope
 locals_scope xs k = ap (λ (t : Known). t.scope) (locals_known xs k)
 

@@ -23,9 +23,9 @@ use Rattle.scope_laws.specs.Sight.{Sight, Part, expr, stat, function, arm, expr_
 use Rattle.scope_laws.specs.Sight as sight
 use Rattle.scope_laws.proofs.Behind.{around, sight_by, all_behind, behind_around, behind_declared, behind_scope, AreQuiet, quiet_more, quiet_one, quiet_expr, quiet_field}
 use Rattle.scope_laws.proofs.Counts.{part_count}
-use Rattle.scope_laws.proofs.Effects.{sight_of, around_known, shown, names_part, names_parts, parts_join, exprs_known, list_known, stats_known, locals_count, infos, locals_new, locals_notes, locals_scope, locals_around, visible_known, shown_known}
+use Rattle.scope_laws.proofs.Effects.{sight_of, around_known, shown, names_part, names_parts, parts_join, exprs_known, list_known, stats_known, locals_count, infos, locals_new, locals_notes, locals_faults, locals_scope, locals_around, visible_known, shown_known}
 use Rattle.scope_laws.proofs.Levels.{at_expr_level, at_field_level, kind_is, field_kind_is, stat_kind_is, arm_is, expr_is, expr_arm_is, field_is, func_is, stat_is}
-use Rattle.scope_laws.proofs.Places.{get_other, get_last, get_set_within, none_some, false_true}
+use Rattle.scope_laws.proofs.Places.{Front, front_same, front_from, front_to, get_other, get_last, get_set_within, none_some, false_true}
 use Rattle.scope_laws.proofs.StatOpens.{StatOpens, stat_known, stat_opens}
 use Rattle.scope_laws.proofs.Walks.{inner}
 
@@ -73,6 +73,10 @@ pub record Opens (p : Part) (target : Bool) (k : Known) : Type 0 where
   -- no part changes the own note
   pub own_note : slice_get (names_parts (in_part p (sight_of k)).parts targets into).notes (length k.notes) ≡ slice_get into.notes
       (length k.notes) → length k.notes < length into.notes → OwnNote (names_part p target k).notes p target k
+  -- the faults of the parts are faults of the part, and no `continue` before it is forgotten
+  pub begun : into.faults ≡ k.faults
+  pub faults : Front (names_parts (in_part p (sight_of k)).parts targets into).faults (names_part p target k).faults
+  pub leaps : Front into.leaps (names_parts (in_part p (sight_of k)).parts targets into).leaps → Front k.leaps (names_part p target k).leaps
 
 closing : (p : Part) (s r : Sight) → r.scope ≡ s.scope ++ shows p s.declared →
     r.declared ≡ (all_behind (in_part p s).parts (in_part p s).sight).declared → around r ≡ around s → r ≡ behind p s
@@ -119,6 +123,9 @@ plain p target k into own none unset noted same nothing quiet is count e = recor
             ∙ ap (λ (t : Known). slice_get t.notes (length k.notes)) is ∙ o.at;
         tells = o.tells;
       };
+  begun = ap (λ (t : Known). t.faults) is;
+  faults = front_to (front_same _) (ap (λ (t : Known). t.faults) e);
+  leaps = λ f. front_from (sym (ap (λ (t : Known). t.leaps) is)) (front_to f (ap (λ (t : Known). t.leaps) e));
 }
 
 one_more : (notes : List Note) (note : Note) → length (notes ++ note ∷ []) ≡ length notes + 1
@@ -272,6 +279,9 @@ open_block vs body target k =
           (ap (λ (s : Sight). s.declared) end)
           (ap around end ∙ behind_around (map stat body) (in_part (block vs body) (sight_of k)).sight);
       own_note = λ kept lt. absurd (omega (arith, lt, ap (λ (t : Known). length t.notes) (shown_known vs k)));
+      begun = ap (λ (t : Known). t.faults) (shown_known vs k);
+      faults = front_to (front_same _) (ap (λ (t : Known). t.faults) e);
+      leaps = λ f. front_from (sym (ap (λ (t : Known). t.leaps) (shown_known vs k))) (front_to f (ap (λ (t : Known). t.leaps) e));
     }
 
 -- what is known where a function is entered
@@ -328,6 +338,9 @@ open_func f target k =
                 ∙ get_set_within last.notes (length k.notes) _ (slice_get_within last.notes (length k.notes) _ place);
             tells = record { first = refl; name = λ b h. absurd (none_some h); set = λ h. absurd (false_true h) };
           };
+      begun = ap (λ (t : Known). t.faults) v ∙ locals_faults params (entered f k);
+      faults = front_from (sym (ap (λ (t : Known). t.faults) e)) (record { more = _; is = ap (λ (t : Known). t.faults) is });
+      leaps = λ g. front_to (front_same _) (ap (λ (t : Known). t.leaps) is);
     }
 
 open_stat : (x : Stat) (target : Bool) (k : Known) → Opens (stat x) target k
@@ -362,6 +375,9 @@ open_stat x target k =
             ∙ ap (λ l. slice_get l (length k.notes)) o.notes ∙ get_last k.notes _;
         tells = record { first = refl; name = λ b h. absurd (none_some h); set = λ h. absurd (false_true h) };
       };
+      begun = o.begun;
+      faults = front_to o.faults (ap (λ (t : Known). t.faults) is);
+      leaps = λ f. front_to (o.leaps f) (ap (λ (t : Known). t.leaps) is);
     }
 
 pub opens : (p : Part) (target : Bool) (k : Known) → Opens p target k

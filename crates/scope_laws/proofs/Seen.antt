@@ -61,6 +61,7 @@ pub record Here (final : Known) (lowest highest : ℕ) (s : Sight) (ps : List Pa
   pub walk : Walk (length before.notes) ps stop
   pub same : (i : ℕ) → length before.notes ≤ i → i < stop → slice_get final.notes i ≡ slice_get (names_parts ps targets before).notes i
   pub locals : Front (names_parts ps targets before).locals final.locals
+  pub faults : Front (names_parts ps targets before).faults final.faults
   pub low : low_of ps lowest ≤ length before.notes
   pub high : stop ≤ highest
 
@@ -71,7 +72,7 @@ pub record Split (n : ℕ) (p : Part) (ps : List Part) (r : ℕ) : Type 0 where
   pub inside : (s : Sight) → Walk (inner p n) (in_part p s).parts middle
   pub rest : Walk middle ps r
 
-split : {n r : ℕ} {p : Part} {ps : List Part} → Walk n (p ∷ ps) r → Split n p ps r
+pub split : {n r : ℕ} {p : Part} {ps : List Part} → Walk n (p ∷ ps) r → Split n p ps r
 split (passed n m r p ps h inside rest) = record { middle = m; number = h; inside = inside; rest = rest }
 
 -- the number of a node
@@ -131,6 +132,7 @@ module _ (final : Known) (lowest highest : ℕ) where
           walk = subst (λ n. Walk n ps h.stop) (sym f.single.count) f.parts.rest;
           same = λ i from upto. h.same i (omega (arith, from, f.single.count, f.low, inner_least p (length h.before.notes))) upto;
           locals = h.locals;
+          faults = h.faults;
           low = omega (arith, low_most ps lowest, low_inner p ps lowest (length h.before.notes) h.low, f.low, f.single.count);
           high = h.high;
         };
@@ -172,6 +174,7 @@ module _ (final : Known) (lowest highest : ℕ) where
               h.same i (omega (arith, from, o.count, inner_least p n)) (omega (arith, upto, f.high))
               ∙ f.others.before i upto ∙ o.same i (inr from);
           locals = front;
+          faults = front_then o.faults (front_then f.others.faults h.faults);
           low = omega (arith, low_most parts lowest, low_inner p ps lowest n h.low, o.count);
           high = omega (arith, f.high, h.high);
         };
@@ -254,6 +257,7 @@ in_script main = record {
   same =
       λ i from upto. refl;
   locals = front_same (known (numbered main)).locals;
+  faults = front_same (known (numbered main)).faults;
   low = omega arith;
   high = omega arith;
 }

@@ -14,8 +14,9 @@ use Rattle.scope_laws.specs.Sight.{Sight, Part, expr, stat, function, arm, block
 use Rattle.scope_laws.specs.Sight as sight
 use Rattle.scope_laws.proofs.Behind.{around, sight_by, all_behind, behind_around, behind_declared, behind_scope, take_again, AreQuiet, quiet_more, quiet_list, quiet_all, quiet_one}
 use Rattle.scope_laws.proofs.Counts.{stat_count}
-use Rattle.scope_laws.proofs.Effects.{sight_of, around_known, shown, names_part, names_parts, parts_join, exprs_known, targets_known, list_known, stats_known, locals_count, infos, locals_new, locals_notes, locals_scope, locals_around, visible_known, visible_shown}
+use Rattle.scope_laws.proofs.Effects.{sight_of, around_known, shown, names_part, names_parts, parts_join, exprs_known, targets_known, list_known, stats_known, locals_count, infos, locals_new, locals_notes, locals_faults, locals_leaps, locals_scope, locals_around, visible_known, visible_shown}
 use Rattle.scope_laws.proofs.Levels.{at_stat_level}
+use Rattle.scope_laws.proofs.Places.{Front, front_same, front_from, front_to}
 
 -- what is known after a statement of this kind, whose own note stands already
 abbrev pub stat_known : StatLevel → ℕ → Known → Known
@@ -37,6 +38,10 @@ pub record StatOpens (l : StatLevel) (place : ℕ) (k : Known) : Type 0 where
   pub locals : (stat_known l place k).locals ≡ (names_parts (in_stat l (sight_of k)).parts targets into).locals
   pub ends : sight_of (names_parts (in_stat l (sight_of k)).parts targets into) ≡ all_behind (in_stat l (sight_of k)).parts (in_stat l
       (sight_of k)).sight → sight_of (stat_known l place k) ≡ behind_stat l (sight_of k)
+  -- the faults of the parts are faults of the statement, and no `continue` before it is forgotten
+  pub begun : into.faults ≡ k.faults
+  pub faults : Front (names_parts (in_stat l (sight_of k)).parts targets into).faults (stat_known l place k).faults
+  pub leaps : Front into.leaps (names_parts (in_stat l (sight_of k)).parts targets into).leaps → Front k.leaps (stat_known l place k).leaps
 
 closing : (l : StatLevel) (s r : Sight) → r.scope ≡ s.scope ++ stat_shows l s.declared →
     r.declared ≡ (all_behind (in_stat l s).parts (in_stat l s).sight).declared → around r ≡ around s → r ≡ behind_stat l s
@@ -74,6 +79,9 @@ plain l place k targets none sets same nothing quiet e = record {
       (ap (λ (s : Sight). s.declared) end)
       (ap around end ∙ behind_around (in_stat l (sight_of k)).parts (in_stat l (sight_of k)).sight
       ∙ ap around same);
+  begun = refl;
+  faults = front_to (front_same _) (ap (λ (t : Known). t.faults) e);
+  leaps = λ f. front_to f (ap (λ (t : Known). t.leaps) e);
 }
 
 exprs_quiet : (es : List Expr) → AreQuiet (map expr es)
@@ -110,6 +118,9 @@ declares_names xs es place k =
           ∙ ap (λ l. l ++ sight.visible (length k.locals) xs) (exprs_quiet es at_start))
           (ap (λ (t : Known). length t.locals) v ∙ ap (λ (s : Sight). s.declared) end)
           (ap around_known v ∙ ap around end ∙ behind_around (map expr es) at_start);
+      begun = locals_faults xs k;
+      faults = front_to (front_same _) (ap (λ (t : Known). t.faults) v ∙ ap (λ (t : Known). t.faults) e);
+      leaps = λ f. front_from (sym (locals_leaps xs k)) (front_to f (ap (λ (t : Known). t.leaps) v ∙ ap (λ (t : Known). t.leaps) e));
     }
 
 declares_function : (x : StrId) (f : FuncBody) (place : ℕ) (k : Known) → StatOpens (level.LocalFunction x f) place k
@@ -128,6 +139,9 @@ declares_function x f place k =
       ends = λ h.
           closing (level.LocalFunction x f) (sight_of k) (sight_of (names_func f within))
           (ap (λ (s : Sight). s.scope) h ∙ append-nil at_start.scope) (ap (λ (s : Sight). s.declared) h) (ap around h);
+      begun = refl;
+      faults = front_same _;
+      leaps = λ f. f;
     }
 
 -- ---- loops
@@ -155,6 +169,9 @@ while_loop a body place k =
       locals = refl;
       ends = λ h. looped (level.While a body) place k (sight_of end) (sight_of (stat_known (level.While a body) place k)) refl h refl refl
           (take_again (length known.scope) last.scope k.scope (ap (λ (s : Sight). s.scope) h ∙ then_block_quiet a [] body (sight_of k)));
+      begun = refl;
+      faults = front_same _;
+      leaps = λ f. front_same _;
     }
 
 repeat_loop : (body : List Stat) (a : Expr) (place : ℕ) (k : Known) → StatOpens (level.Repeat body a) place k
@@ -176,17 +193,20 @@ repeat_loop body a place k =
           (t : Known). length t.locals) e) refl
           (ap (λ (t : Known). take (length k.scope) t.scope) e ∙ ap (λ (s : Sight). take (length k.scope) s.scope) h
           ∙ behind_scope (map stat body ++ expr a ∷ []) (sight_of k) k.scope [] (sym (append-nil k.scope)));
+      begun = refl;
+      faults = front_from (sym (ap (λ (t : Known). t.faults) e)) (record { more = _; is = refl });
+      leaps = λ f. front_same _;
     }
 
 -- a loop whose variables are declared before its first values
-for_loop : (l : StatLevel) (place : ℕ) (k into known : Known) (vs : List Visible) (body : List Stat) (end : Known) →
+for_loop : (l : StatLevel) (place : ℕ) (k into known : Known) (vs : List Visible) (body : List Stat) (end : Known) → into.faults ≡ k.faults →
     into.locals ≡ k.locals ++ infos k.func (stat_names l) → 0 ≡ length (stat_targets l) →
     stat_shows l (length k.locals) ≡ [] → sight_of into ≡ (in_stat l (sight_of k)).sight → into.notes ≡ k.notes →
     (in_stat l (sight_of k)).sight.scope ≡ k.scope → AreQuiet (in_stat l (sight_of k)).parts →
     names_parts (in_stat l (sight_of k)).parts 0 into ≡ names_part (block vs body) false known →
     stat_known l place k ≡ names.outside (length k.scope) k.leaps k.func k.first (names.block (map names_stat body) (shown vs known)) →
     StatOpens l place k
-for_loop l place k into known vs body end new sets nothing begins notes scope quiet e is =
+for_loop l place k into known vs body end begun new sets nothing begins notes scope quiet e is =
     let last : Known = names.block (map names_stat body) (shown vs known) in
     record {
       into = into;
@@ -204,6 +224,9 @@ for_loop l place k into known vs body end new sets nothing begins notes scope qu
           (t : Known). length t.locals) is) (ap around_known is)
           (ap (λ (t : Known). t.scope) is ∙ take_again (length known.scope) last.scope k.scope (ap (λ (s : Sight). s.scope) ended
           ∙ quiet (in_stat l (sight_of k)).sight ∙ scope));
+      begun = begun;
+      faults = front_to (front_same _) (ap (λ (t : Known). t.faults) is ∙ sym (ap (λ (t : Known). t.faults) e));
+      leaps = λ f. front_to (front_same _) (ap (λ (t : Known). t.leaps) is);
     }
 
 numeric_loop : (x : StrId) (a b : Expr) (by : Option Expr) (body : List Stat) (place : ℕ) (k : Known) →
@@ -211,7 +234,7 @@ numeric_loop : (x : StrId) (a b : Expr) (by : Option Expr) (body : List Stat) (p
 numeric_loop x a b None body place k =
     let into : Known = local x (opened k) in
     let known : Known = names_expr b false (names_expr a false into) in
-    for_loop (level.NumFor x a b None body) place k into known (sight.visible (length k.locals) (x ∷ [])) body known refl refl refl
+    for_loop (level.NumFor x a b None body) place k into known (sight.visible (length k.locals) (x ∷ [])) body known refl refl refl refl
     (sight_by (sight_of into) (in_stat (level.NumFor x a b None body) (sight_of k)).sight refl (locals_count (x ∷ [])
     (opened k)) refl) refl refl
     (quiet_more (expr a) (expr b ∷ block (sight.visible (length k.locals) (x ∷ [])) body ∷ []) (λ n. refl) (then_block_quiet b
@@ -219,7 +242,7 @@ numeric_loop x a b None body place k =
 numeric_loop x a b (Some c) body place k =
     let into : Known = local x (opened k) in
     let known : Known = names_expr c false (names_expr b false (names_expr a false into)) in
-    for_loop (level.NumFor x a b (Some c) body) place k into known (sight.visible (length k.locals) (x ∷ [])) body known refl refl refl
+    for_loop (level.NumFor x a b (Some c) body) place k into known (sight.visible (length k.locals) (x ∷ [])) body known refl refl refl refl
     (sight_by (sight_of into) (in_stat (level.NumFor x a b (Some c) body) (sight_of k)).sight refl (locals_count (x ∷ [])
     (opened k)) refl) refl refl
     (quiet_more (expr a) (expr b ∷ expr c ∷ block (sight.visible (length k.locals) (x ∷ [])) body ∷ []) (λ n. refl)
@@ -232,7 +255,7 @@ general_loop xs es body place k =
     let vs : List Visible = sight.visible (length k.locals) xs in
     let known : Known = names_parts (map expr es) 0 into in
     let l : StatLevel = level.GenFor xs es body in
-    for_loop l place k into known vs body known (locals_new xs (opened k)) refl refl
+    for_loop l place k into known vs body known (locals_faults xs (opened k)) (locals_new xs (opened k)) refl refl
     (sight_by (sight_of into) (in_stat l (sight_of k)).sight (locals_scope xs (opened k)) (locals_count xs (opened k)) (locals_around xs
     (opened k))) (locals_notes xs (opened k)) refl
     (quiet_list expr (λ a n. refl) es (block vs body ∷ []) (block_quiet vs body))
@@ -276,4 +299,7 @@ stat_opens level.Continue place k = record {
   same = refl;
   locals = refl;
   ends = λ h. looped level.Continue place k (sight_of (names.leap place k)) (sight_of (names.leap place k)) refl h refl refl refl;
+  begun = refl;
+  faults = front_same _;
+  leaps = λ f. record { more = _; is = refl };
 }
