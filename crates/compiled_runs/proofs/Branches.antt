@@ -173,7 +173,8 @@ module _ (p : Setting) (most : ℕ) (b : Bindings) (whole : Emitter) (script : S
         (omega (arith, e4, le5, le3)) around) (arm_allowed a arms j at allowed) in
         let g4 : Grows d d4 = grows.put _ d _ (grows.after d d2 d3 (grows.after d d1 d2 g1 (block_grows a d)) g3) in
         choose_arm p most a arms other h l j (here d) (here d1) body.middle (here d2) (here d3) to body.End
-        (performs.0.0.cond false h r _ l d next (here d3) (record { at = weak p most b whole script h r _ l d inner; inside = s1; func = func; room = omega (arith, room, needed) })
+        (performs.0.0.cond false h r _ l d next (here d3)
+        (record { at = weak p most b whole script h r _ l d inner; inside = s1; func = func; room = omega (arith, room, needed) })
         (label_read r.final whole h.proto.code r.read next d3 s4) (omega (arith, le2, le3)))
         body.runs body.closes
         (skips_at again d2 s3 (omega (arith, e4, le5, le))

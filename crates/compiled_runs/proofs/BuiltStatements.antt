@@ -1,5 +1,5 @@
 -- Each statement all of whose nodes are built does what its code does: by induction over the tree.
-use Rattle.std.proofs.Common.{◌≡◌, ℕ, ◌≤◌, Bool, true, false, ◌&&◌, List, [], ◌∷◌, map, Some, None, rules, refl, sym, ap, ◌∙◌, subst}
+use Rattle.std.proofs.Common.{◌≡◌, ℕ, ◌≤◌, true, ◌&&◌, List, [], ◌∷◌, map, Some, None, rules, refl, sym, ap, ◌∙◌, subst}
 use Rattle.byte_text.specs.declared.fixed.StrId.{StrId}
 use Rattle.syntax_tree.specs.declared.bindings.Bindings.{Bindings}
 use Rattle.syntax_tree.specs.declared.tree.Arm.{Arm, out-Arm, roll-Arm}
@@ -16,6 +16,8 @@ use Rattle.syntax_tree.specs.declared.tree.FuncBody.{FuncBody}
 use Rattle.syntax_tree.specs.declared.tree.Stat.{Stat}
 use Rattle.syntax_tree.specs.declared.tree.StatKind.{StatKind, out-StatKind, roll-StatKind}
 use Rattle.syntax_tree.specs.Fold.{at_arm}
+use Rattle.syntax_tree.specs.Bound.{known}
+use Rattle.syntax_tree.specs.Numbers.{numbered}
 use Rattle.syntax_tree.specs.Proper as proper
 use Rattle.syntax_tree.specs.Proper.{all, all_targets, all_proper, has_one, maybe_all, maybe_proper, form_expr, proper_stat, proper_arm}
 use Rattle.emit_expr.specs.declared.draft.Emitter.{Emitter}
@@ -40,8 +42,8 @@ use Rattle.compiled_runs.proofs.LocalFunctions.{local_function_performs}
 use Rattle.compiled_runs.proofs.Blocks.{do_performs}
 use Rattle.compiled_runs.proofs.Branches.{ArmsPerform, if_performs}
 use Rattle.compiled_runs.proofs.Loops.{break_performs, continue_performs, while_performs}
-use Rattle.compiled_runs.proofs.Turns.{any, ends_turn}
-use Rattle.compiled_runs.proofs.Repeats.{EarlyTries, never_early, repeat_performs}
+use Rattle.compiled_runs.proofs.Repeats.{repeat_performs}
+use Rattle.compiled_runs.proofs.EarlyEnds.{early_tries}
 use Rattle.compiled_runs.proofs.CallStatements.{call_performs}
 use Rattle.compiled_runs.proofs.Returns.{return_performs}
 use Rattle.compiled_runs.proofs.Assigns.{assign_performs}
@@ -115,8 +117,7 @@ names_of (e ∷ es) t u =
 
 module _ (p : Setting) (most : ℕ) (calls : (i : ℕ) → i ≤ most → CallsGo p i) (b : Bindings) (whole : Emitter) (script : Script p b whole)
     (coded : FunctionsCoded p most b whole script)
-    (early : (body : List Stat) (cond : Expr) → any (map ends_turn body) ≡ true → Holds p most calls b whole script cond
-    → EarlyTries p most b whole script body cond) where
+    (clean : (known (numbered script.main)).faults ≡ []) where
   abbrev Done : Stat → Type 0
   Done s = Performs p most b whole script s
 
@@ -163,11 +164,6 @@ module _ (p : Setting) (most : ℕ) (calls : (i : ℕ) → i ≤ most → CallsG
       let v = both_true (proper_arm a.0) (all (map proper_arm (map (λ z. z.0) arms))) q in
       (a.1 u.0 v.0, arms_done arms u.1 v.1)
 
-  tries : (body : List Stat) (cond : Expr) → Holds p most calls b whole script cond → (t : Bool) → any (map ends_turn body) ≡ t
-      → EarlyTries p most b whole script body cond
-  tries body cond c true e = early body cond e c
-  tries body cond c false e = never_early p most b whole script body cond e
-
   by_kind : (y : StatWith) (s : Stat) → out-StatKind s.kind ≡ stat_parts y → levels.at_stat_level built.steps (stat_parts y) ≡ true
       → levels.at_stat_level proper.steps (stat_parts y) ≡ true → Done s
   by_kind (level.Local xs es) s is t q = local_performs p most b whole script s xs (map (λ z. z.0) es) is (all_hold (map (λ z. z.0) es) t)
@@ -207,7 +203,7 @@ module _ (p : Setting) (most : ℕ) (calls : (i : ℕ) → i ≤ most → CallsG
       let v = both_true (all (map proper_stat stats)) (form_expr c.0).proper q in
       let c_holds = holds c.0 u.1 in
       repeat_performs p most b whole script calls s stats c.0 is (all_done body u.0 v.0) c_holds
-      (tries stats c.0 c_holds (any (map ends_turn stats)) refl)
+      (early_tries p most calls b whole script clean stats c.0 c_holds)
   by_kind (level.StatKind::If arms None) s is t q =
       let list = map (λ z. z.0) arms in
       let u = both_true (all (map (at_arm built.steps) list)) true t in

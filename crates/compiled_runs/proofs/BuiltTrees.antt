@@ -1,11 +1,10 @@
 -- Whole scripts all of whose nodes are built: each run is one of the chunk of the linked functions, and the other way round.
-use Rattle.std.proofs.Common.{◌≡◌, ℕ, ◌≤◌, true, List, [], ◌∷◌, map}
+use Rattle.std.proofs.Common.{◌≡◌, ℕ, ◌≤◌, true, List, [], ◌∷◌}
 use Rattle.byte_text.specs.declared.fixed.StrId.{StrId}
 use Rattle.syntax_tree.specs.declared.bindings.Bindings.{Bindings}
-use Rattle.syntax_tree.specs.declared.tree.Expr.{Expr}
 use Rattle.syntax_tree.specs.declared.tree.FuncBody.{FuncBody, out-FuncBody}
-use Rattle.syntax_tree.specs.declared.tree.Stat.{Stat}
 use Rattle.syntax_tree.specs.declared.tree.Tree.{Tree}
+use Rattle.syntax_tree.specs.Bound.{known}
 use Rattle.syntax_tree.specs.Numbers.{numbered}
 use Rattle.syntax_tree.specs.Proper.{proper_func}
 use Rattle.value_model.specs.declared.event.EventKind.{EventKind}
@@ -27,10 +26,7 @@ use Rattle.code_simulation.proofs.Blocks.{outside}
 use Rattle.code_simulation.proofs.Promises.{setting}
 use Rattle.compiled_runs.specs.Built.{built_func}
 use Rattle.compiled_runs.proofs.Standing.{Script}
-use Rattle.compiled_runs.proofs.Leaves.{Holds}
 use Rattle.compiled_runs.proofs.Statements.{AllPerform}
-use Rattle.compiled_runs.proofs.Turns.{any, ends_turn}
-use Rattle.compiled_runs.proofs.Repeats.{EarlyTries}
 use Rattle.compiled_runs.proofs.Blocks.{AllAllowed}
 use Rattle.compiled_runs.proofs.Chunks.{Chunk, CodeOf}
 use Rattle.compiled_runs.proofs.Bodies.{functions_coded, in_function}
@@ -46,9 +42,7 @@ module _ (p : Setting) (b : Bindings) (whole : Emitter) (script : Script p b who
     → CodeOf b whole (numbered script.main).main f around ups proto)
     (emitted : whole ≡ script_code b (numbered script.main).main)
     (built : built_func (numbered script.main).main ≡ true) (proper : proper_func (numbered script.main).main ≡ true)
-    (early : (most deep left : ℕ) (body : List Stat) (cond : Expr) (calls : (i : ℕ) → i ≤ left → CallsGo (setting p most deep) i)
-    → any (map ends_turn body) ≡ true → Holds (setting p most deep) left calls b whole (script_in most deep script) cond
-    → EarlyTries (setting p most deep) left b whole (script_in most deep script) body cond)
+    (clean : (known (numbered script.main)).faults ≡ [])
     (allowed : (most deep left : ℕ) (f : FuncBody) (s : Sight) (after : List Part) → Sees (numbered script.main).main s (function f ∷ after)
     → AllAllowed (setting p most deep) left b whole (script_in most deep script) (out-FuncBody f).body outside
     (in_function (setting p most deep) b whole (script_in most deep script) chunk code_is is_code f)) where
@@ -60,8 +54,7 @@ module _ (p : Setting) (b : Bindings) (whole : Emitter) (script : Script p b who
       let fine = inner_fine (numbered script.main).main built proper f s after sees in
       all_perform (setting p most deep) left calls b whole (script_in most deep script)
       (functions_coded (setting p most deep) b whole (script_in most deep script) chunk code_is is_code left)
-      (λ body cond ends cond_holds. early most deep left body cond calls ends cond_holds)
-      (out-FuncBody f).body fine.built fine.proper
+      clean (out-FuncBody f).body fine.built fine.proper
 
   abbrev tree : Tree
   tree = numbered script.main

@@ -143,7 +143,8 @@ module _ (p : Setting) (most : ℕ) (b : Bindings) (whole : Emitter) (script : S
     -- of a variable
     one_captured : (k : ℕ) (x : StrId) (vs : List Visible) (l : List Slot) (d : Emitter) → look x vs ≡ Some k → is_captured b k ≡ true
         → (k < r.from.declared → Contains r.captured.locals k) → (q : Partly b r.from.scope r.from.declared l vs d.draft.variables)
-        → Shows q.hidden (Some k) → d.draft.func ≡ r.final.func → In p most b whole script h r (capture b k d) → Captured p most h l x (here d) (here (capture b k d))
+        → Shows q.hidden (Some k) → d.draft.func ≡ r.final.func → In p most b whole script h r (capture b k d)
+        → Captured p most h l x (here d) (here (capture b k d))
     one_captured k x vs l d e flag outside q shows func = by (nat_lt k r.from.declared) refl
       where
         is_below : (n : ℕ) → nat_lt k n ≡ true → k < n

@@ -1,6 +1,6 @@
 -- The condition of a `repeat` names no local that an early end of its body's turns skips: each `continue` that ends a turn is told where
 -- the condition begins.
-use Rattle.std.proofs.Common.{◌≡◌, ℕ, zero, suc, ◌+◌, ◌-◌, ◌<◌, ◌≤◌, Bool, true, false, ◌||◌, ◌&&◌, List, [], ◌∷◌, ◌++◌, length, map, drop, Option, Some, None, refl, sym, ap, ◌∙◌, arith, subst, append_assoc, if◌then◌else◌, slice_get}
+use Rattle.std.proofs.Common.{◌≡◌, ℕ, zero, suc, ◌+◌, ◌-◌, ◌<◌, ◌≤◌, Bool, true, false, ◌||◌, ◌&&◌, List, [], ◌∷◌, ◌++◌, length, map, drop, Option, Some, None, refl, sym, ap, ◌∙◌, arith, subst, if◌then◌else◌, slice_get}
 use Rattle.std.specs.Prelude.{nat_lt, nat_le}
 use Rattle.std.specs.List.{list_any}
 use Rattle.std.proofs.lemmas.Bool.Decides.{nat_tests}
@@ -11,7 +11,6 @@ use Rattle.syntax_tree.specs.declared.fault.ScopeFault.{ScopeFault}
 use Rattle.syntax_tree.specs.declared.fault.ScopeRule.TheVariants as rule
 use Rattle.syntax_tree.specs.declared.notes.Leap.{Leap}
 use Rattle.syntax_tree.specs.declared.notes.Note.{Note}
-use Rattle.syntax_tree.specs.declared.notes.Visible.{Visible}
 use Rattle.syntax_tree.specs.declared.tree.Arm.{Arm, out-Arm}
 use Rattle.syntax_tree.specs.declared.tree.Expr.{Expr}
 use Rattle.syntax_tree.specs.declared.tree.ExprKind.TheOpen as level
@@ -25,7 +24,7 @@ use Rattle.syntax_tree.specs.Names as names
 use Rattle.syntax_tree.specs.Names.{Known, names_expr, names_stat, names_arm, opened}
 use Rattle.syntax_tree.specs.Numbers.{numbered}
 use Rattle.syntax_tree.specs.Scope.{look, bound_in, local_of}
-use Rattle.scope_laws.specs.Sight.{Sight, Part, expr, stat, function, arm, block, StatLevel, in_stat, in_part, NameWithin, Sees}
+use Rattle.scope_laws.specs.Sight.{Sight, Part, expr, stat, arm, block, StatLevel, in_stat, in_part, NameWithin, Sees}
 use Rattle.scope_laws.proofs.Behind.{all_behind}
 use Rattle.scope_laws.proofs.Effects.{sight_of, shown, shown_known, names_part, names_parts, is_target, less, parts_join, stats_known, list_known}
 use Rattle.scope_laws.proofs.Levels as levels
@@ -34,7 +33,7 @@ use Rattle.scope_laws.proofs.Places.{Front, front_same, front_then, front_get, g
 use Rattle.scope_laws.proofs.Seen as seen
 use Rattle.scope_laws.proofs.Seen.{Split, split}
 use Rattle.scope_laws.proofs.StatOpens.{stat_known}
-use Rattle.scope_laws.proofs.Walks.{Walk, done, passed, one, inner, HasNumber}
+use Rattle.scope_laws.proofs.Walks.{Walk, done, passed, one, inner}
 use Rattle.compiled_runs.proofs.Turns as turns
 use Rattle.compiled_runs.proofs.Turns.{any, ends_turn, arm_ends}
 use Rattle.compiled_runs.proofs.NodeLevels.{arm_ends_of}

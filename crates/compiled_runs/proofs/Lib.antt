@@ -40,7 +40,9 @@ pub mod NumericRuns
 pub mod NumericLoops
 pub mod Compounds
 pub mod NamedUpdates
+pub mod RepeatBodies
 pub mod Repeats
+pub mod EarlyEnds
 pub mod BuiltStatements
 pub mod BuiltParts
 pub mod BuiltTrees

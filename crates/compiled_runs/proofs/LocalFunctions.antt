@@ -33,7 +33,7 @@ use Rattle.compiled_runs.proofs.Nodes.{Runs, In}
 use Rattle.compiled_runs.proofs.Captures.{AreCaptured, names, are_captured, are_named}
 use Rattle.compiled_runs.proofs.Functions.{child_number, closed, FunctionsCoded, ClosureAt, closure_at}
 use Rattle.compiled_runs.proofs.Statements.{Goes, Does, Performs}
-use Rattle.compiled_runs.proofs.Locals.{here_declare, Declared, flags, names_declared, behind_names}
+use Rattle.compiled_runs.proofs.Locals.{here_declare, Declared, flags, names_declared, behind_names, behind_sight}
 
 module _ (p : Setting) (most : ℕ) (b : Bindings) (whole : Emitter) (script : Script p b whole) (coded : FunctionsCoded p most b whole script) where
   module _ (h : Here p most) (r : Runs p most b whole script h) (s : Stat) (x : StrId) (func : FuncBody)
@@ -97,7 +97,7 @@ module _ (p : Setting) (most : ℕ) (b : Bindings) (whole : Emitter) (script : S
           (same_some (sym (code c).1.found ∙ (code 0).1.found)) (code c).1;
     }
 
-    local_function_runs : (j : Jumps) → Goes p most b whole script s 1 h r ps l j d (func_code b func (length l) with_variable)
+    local_function_runs : (j : Jumps) → Goes p most b whole script s 1 h r ps l j d (func_code b func (length l) with_variable) a.sight
     local_function_runs j =
         let d0 = with_variable in
         let d1 = func_code b func (length l) d0 in
@@ -117,6 +117,8 @@ module _ (p : Setting) (most : ℕ) (b : Bindings) (whole : Emitter) (script : S
               });
           above = λ c. up same;
           count = λ c. omega arith;
+          sight_is = λ c. behind_sight p most b whole script h r s (level.LocalFunction x func) (x ∷ []) ps l d is (λ n. refl) (λ t. omega arith) a
+              (slots c) d1 _;
         }
 
   pub local_function_performs : (s : Stat) (x : StrId) (func : FuncBody) → out-StatKind s.kind ≡ level.LocalFunction x func

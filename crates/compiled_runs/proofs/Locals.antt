@@ -187,10 +187,18 @@ module _ (p : Setting) (most : ℕ) (b : Bindings) (whole : Emitter) (script : S
           below = below_later (n + length xs) (behind (stat s) a.sight).declared d2.draft.variables (omega (arith, count, enough)) made.below;
         }
 
+    pub behind_sight : (s : Stat) (x : StatLevel) (xs : List StrId) (ps : List Part) (l : List Slot) (d : Emitter) (is : out-StatKind s.kind ≡ x)
+        (shown : (n : ℕ) → stat_shows x n ≡ visible n xs) (many : (t : Sight) → t.declared + length xs ≤ (in_stat x t).sight.declared)
+        (a : At p most b whole script h r (stat s ∷ ps) l d) (l2 : List Slot) (d2 : Emitter)
+        (made : Declared b r.from.scope r.from.declared l2 (a.sight.scope ++ visible a.sight.declared xs) d2.draft.variables (a.sight.declared + length xs))
+        → (behind_names s x xs ps l d is shown many a l2 d2 made).sight ≡ behind (stat s) a.sight
+    unfolding behind_names
+    behind_sight s x xs ps l d is shown many a l2 d2 made = refl
+
     local_runs : (s : Stat) (xs : List StrId) (es : List Expr) (ps : List Part) (l : List Slot) (d : Emitter) (j : Jumps)
         → out-StatKind s.kind ≡ level.Local xs es → AllHold p most b whole script es
-        → Begins p most b whole script h r (stat s ∷ ps) l d (local_run b (length xs) (map (expr_code b) es) s.id (length l) d) (need_stat s).need
-        → Goes p most b whole script s (length xs) h r ps l j d (local_run b (length xs) (map (expr_code b) es) s.id (length l) d)
+        → (st : Begins p most b whole script h r (stat s ∷ ps) l d (local_run b (length xs) (map (expr_code b) es) s.id (length l) d) (need_stat s).need)
+        → Goes p most b whole script s (length xs) h r ps l j d (local_run b (length xs) (map (expr_code b) es) s.id (length l) d) st.at.sight
     local_runs s xs es ps l d j is holds st =
         let codes = map (expr_code b) es in
         let d1 = exact_run codes (length l) (length xs) d in
@@ -223,6 +231,7 @@ module _ (p : Setting) (most : ℕ) (b : Bindings) (whole : Emitter) (script : S
               (subst (AllBelow st.at.sight.declared) (sym k) st.at.below));
           above = λ c. above_vars captured xs c l;
           count = λ c. length_vars captured xs c l;
+          sight_is = λ c. behind_sight s (level.Local xs es) xs ps l d is (λ n. refl) (λ t. omega arith) st.at (vars captured xs c l) d2 _;
         }
 
   pub local_performs : (s : Stat) (xs : List StrId) (es : List Expr) → out-StatKind s.kind ≡ level.Local xs es → AllHold p most b whole script es

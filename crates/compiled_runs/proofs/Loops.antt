@@ -251,8 +251,9 @@ module _ (p : Setting) (most : ℕ) (b : Bindings) (whole : Emitter) (script : S
   while_stands : (s : Stat) (cond : Expr) (body : List Stat) → out-StatKind s.kind ≡ level.While cond body
       → As p most b whole script cond (expr_code b cond) → AllPerform p most b whole script body
       → (h : Here p most) (r : Runs p most b whole script h) (ps : List Part) (l : List Slot) (d : Emitter) (j : Jumps) (at : Place)
-      → Begins p most b whole script h r (stat s ∷ ps) l d (while_run b (expr_code b cond) (map (stat_code b) body) s.id (length l) d) (need_stat s).need
-      → Allowed s j at → Goes p most b whole script s 0 h r ps l j d (while_run b (expr_code b cond) (map (stat_code b) body) s.id (length l) d)
+      → (st : Begins p most b whole script h r (stat s ∷ ps) l d (while_run b (expr_code b cond) (map (stat_code b) body) s.id (length l) d)
+      (need_stat s).need) → Allowed s j at
+      → Goes p most b whole script s 0 h r ps l j d (while_run b (expr_code b cond) (map (stat_code b) body) s.id (length l) d) st.at.sight
   while_stands s cond body is holds performs h r ps l d j at st allowed =
       let c = expr_code b cond in
       let codes = map (stat_code b) body in
@@ -318,7 +319,12 @@ module _ (p : Setting) (most : ℕ) (b : Bindings) (whole : Emitter) (script : S
       let cond_runs : CondRuns p most cond h l (here d) (here d1) (here d6) =
       subst (λ n. CondRuns p most cond h l n (here d1) (here d6)) e0
       (holds.cond false h r _ l d0 (label s.id 1) (here d6)
-      (record { at = weak p most b whole script h r _ l d0 inner0; inside = s1; func = g0.func ∙ st.func; room = omega (arith, room, needed) }) exits (omega (arith, r2, e3, e5, r4, r6))) in
+      (record {
+        at = weak p most b whole script h r _ l d0 inner0;
+        inside = s1;
+        func = g0.func ∙ st.func;
+        room = omega (arith, room, needed);
+      }) exits (omega (arith, r2, e3, e5, r4, r6))) in
       let g03 : Grows d d3 = grows.after d d2 d3 (grows.after d d1 d2 (grows.after d d0 d1 g0 g1) g2) g3 in
       plain_goes p most b whole script s (level.While cond body) h r ps l j d d7 is (λ n. refl)
       (keeps.put _ d d6 (keeps.put _ d d5 (ended_keeps b m d d3 refl g03.variables))) st.at

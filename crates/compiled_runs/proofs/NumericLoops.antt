@@ -327,10 +327,10 @@ module _ (p : Setting) (most : ℕ) (calls : (i : ℕ) → i ≤ most → CallsG
 
     none_stands : (s : Stat) (x : StrId) (start limit : Expr) (body : List Stat) → out-StatKind s.kind ≡ level.NumFor x start limit None body
         → Holds p most calls b whole script start → Holds p most calls b whole script limit → AllPerform p most b whole script body
-        → (ps : List Part) (l : List Slot) (d : Emitter) (j : Jumps) (at : Place) → Begins p most b whole script h r (stat s ∷ ps) l d
-        (num_for_run b (expr_code b start) (expr_code b limit) None (map (stat_code b) body) s.id (length l) d) (need_stat s).need
+        → (ps : List Part) (l : List Slot) (d : Emitter) (j : Jumps) (at : Place) → (st : Begins p most b whole script h r (stat s ∷ ps) l d
+        (num_for_run b (expr_code b start) (expr_code b limit) None (map (stat_code b) body) s.id (length l) d) (need_stat s).need)
         → Allowed s j at → Goes p most b whole script s 0 h r ps l j d
-        (num_for_run b (expr_code b start) (expr_code b limit) None (map (stat_code b) body) s.id (length l) d)
+        (num_for_run b (expr_code b start) (expr_code b limit) None (map (stat_code b) body) s.id (length l) d) st.at.sight
     none_stands s x start limit body is holds1 holds2 performs ps l d j at st allowed =
         let f = length l in
         let c1 = expr_code b start in
@@ -377,10 +377,10 @@ module _ (p : Setting) (most : ℕ) (calls : (i : ℕ) → i ≤ most → CallsG
     some_stands : (s : Stat) (x : StrId) (start limit by : Expr) (body : List Stat) → out-StatKind s.kind ≡ level.NumFor x start limit (Some by) body
         → Holds p most calls b whole script start → Holds p most calls b whole script limit → Holds p most calls b whole script by
         → AllPerform p most b whole script body
-        → (ps : List Part) (l : List Slot) (d : Emitter) (j : Jumps) (at : Place) → Begins p most b whole script h r (stat s ∷ ps) l d
-        (num_for_run b (expr_code b start) (expr_code b limit) (Some (expr_code b by)) (map (stat_code b) body) s.id (length l) d) (need_stat s).need
+        → (ps : List Part) (l : List Slot) (d : Emitter) (j : Jumps) (at : Place) → (st : Begins p most b whole script h r (stat s ∷ ps) l d
+        (num_for_run b (expr_code b start) (expr_code b limit) (Some (expr_code b by)) (map (stat_code b) body) s.id (length l) d) (need_stat s).need)
         → Allowed s j at → Goes p most b whole script s 0 h r ps l j d
-        (num_for_run b (expr_code b start) (expr_code b limit) (Some (expr_code b by)) (map (stat_code b) body) s.id (length l) d)
+        (num_for_run b (expr_code b start) (expr_code b limit) (Some (expr_code b by)) (map (stat_code b) body) s.id (length l) d) st.at.sight
     some_stands s x start limit by body is holds1 holds2 holds3 performs ps l d j at st allowed =
         let f = length l in
         let c1 = expr_code b start in

@@ -35,7 +35,7 @@ BlocksFrom n [] = Unit {0}
 BlocksFrom n (block names body ∷ ps) = AreFrom n names × BlocksFrom n ps
 BlocksFrom n (p ∷ ps) = BlocksFrom n ps
 
-from_both : (n : ℕ) (vs us : List Visible) → AreFrom n vs → AreFrom n us → AreFrom n (vs ++ us)
+pub from_both : (n : ℕ) (vs us : List Visible) → AreFrom n vs → AreFrom n us → AreFrom n (vs ++ us)
 from_both n [] us a b = b
 from_both n (v ∷ vs) us a b = (a.0, from_both n vs us a.1 b)
 
@@ -59,7 +59,7 @@ from_shows n m (level.Return es) le = tt
 from_shows n m level.Break le = tt
 from_shows n m level.Continue le = tt
 
-from_part : (n m : ℕ) (p : Part) → n ≤ m → AreFrom n (shows p m)
+pub from_part : (n m : ℕ) (p : Part) → n ≤ m → AreFrom n (shows p m)
 from_part n m (stat s) le = from_shows n m (out-StatKind s.kind) le
 from_part n m (expr e) le = tt
 from_part n m (function f) le = tt

@@ -161,6 +161,11 @@ module _ (p : Setting) (most : ℕ) (b : Bindings) (whole : Emitter) (script : S
       below = kept_under all a.sight d d' k a.below;
     }
 
+    pub kept_sight : {all : Bool} → (ps : List Part) (l : List Slot) (d d' : Emitter) (k : Keeps d d') (a : AtWith all ps l d)
+        → (kept ps l d d' k a).sight ≡ a.sight
+    unfolding kept
+    kept_sight ps l d d' k a = refl
+
     -- behind a part that makes nothing visible
     next_names : (all : Bool) (q : Part) (s : Sight) (ps : List Part) (l : List Slot) (d : Emitter) → shows q s.declared ≡ []
         → Names all s (q ∷ ps) l d → Names all (behind q s) ps l d

@@ -1,5 +1,5 @@
 -- What is shown of the code of a statement: where it stands, the statement's run goes along with it.
-use Rattle.std.proofs.Common.{◌≡◌, ℕ, ◌+◌, ◌≤◌, Bool, true, false, List, [], ◌∷◌, ◌++◌, length, Some, sym, ap, ◌∙◌, arith, subst, append-nil}
+use Rattle.std.proofs.Common.{◌≡◌, ℕ, ◌+◌, ◌≤◌, Bool, true, false, List, [], ◌∷◌, ◌++◌, length, Some, sym, ap, ◌∙◌, arith, subst, append-nil, refl}
 use Rattle.syntax_tree.specs.declared.bindings.Bindings.{Bindings}
 use Rattle.syntax_tree.specs.declared.notes.Place.{Place}
 use Rattle.syntax_tree.specs.declared.tree.Stat.{Stat}
@@ -14,14 +14,14 @@ use Rattle.emit_expr.specs.Puts.{label}
 use Rattle.emit_laws.proofs.Keeps.{Keeps}
 use Rattle.node_code.specs.Nodes.{StatCode}
 use Rattle.node_code.specs.Code.{stat_code}
-use Rattle.scope_laws.specs.Sight.{Part, stat, function, StatLevel, stat_shows, shows, behind, in_stat, Within, next, enter}
+use Rattle.scope_laws.specs.Sight.{Sight, Part, stat, function, StatLevel, stat_shows, shows, behind, in_stat, Within, next, enter}
 use Rattle.code_simulation.specs.Slots.{Slot, Var, Temp, Above, same}
 use Rattle.code_simulation.specs.Relation.{Setting}
 use Rattle.code_simulation.proofs.Along.{Here}
 use Rattle.code_simulation.proofs.Blocks.{Jumps, outside, breaking, looping, StatRuns}
 use Rattle.compiled_runs.proofs.Places.{here}
 use Rattle.compiled_runs.proofs.Scopes.{below_later, Aligned}
-use Rattle.compiled_runs.proofs.Standing.{Script, At, kept}
+use Rattle.compiled_runs.proofs.Standing.{Script, At, kept, kept_sight}
 use Rattle.compiled_runs.proofs.Nodes.{Runs, In}
 use Rattle.compiled_runs.proofs.Turns.{ends_turn}
 
@@ -78,6 +78,11 @@ module _ (p : Setting) (most : ℕ) (b : Bindings) (whole : Emitter) (script : S
       below = below_later a.sight.declared (behind q a.sight).declared d.draft.variables (omega arith) a.below;
     }
 
+    pub next_sight : (q : Part) (ps : List Part) (l : List Slot) (d : Emitter) (quiet : (n : ℕ) → shows q n ≡ [])
+        (a : At p most b whole script h r (q ∷ ps) l d) → (next_quiet q ps l d quiet a).sight ≡ behind q a.sight
+    unfolding next_quiet
+    next_sight q ps l d quiet a = refl
+
     pub stat_quiet : (s : Stat) (x : StatLevel) → out-StatKind s.kind ≡ x → ((n : ℕ) → stat_shows x n ≡ []) → (n : ℕ) → shows (stat s) n ≡ []
     stat_quiet s x is quiet n = ap (λ (y : StatLevel). stat_shows y n) is ∙ quiet n
 
@@ -95,6 +100,13 @@ module _ (p : Setting) (most : ℕ) (b : Bindings) (whole : Emitter) (script : S
       below = below_later a.sight.declared (in_stat x a.sight).sight.declared d.draft.variables le a.below;
     }
 
+    pub statement_sight : (s : Stat) (x : StatLevel) (ps : List Part) (l : List Slot) (d : Emitter) (is : out-StatKind s.kind ≡ x)
+        (a : At p most b whole script h r (stat s ∷ ps) l d) (scope : (in_stat x a.sight).sight.scope ≡ a.sight.scope)
+        (le : a.sight.declared ≤ (in_stat x a.sight).sight.declared) (first : (in_stat x a.sight).sight.first ≡ a.sight.first)
+        → (in_statement s x ps l d is a scope le first).sight ≡ (in_stat x a.sight).sight
+    unfolding in_statement
+    statement_sight s x ps l d is a scope le first = refl
+
   -- ---- what is shown
 
   -- a statement stands at a place, where its code is what the second state has beyond the first, and there are registers for it
@@ -104,20 +116,22 @@ module _ (p : Setting) (most : ℕ) (b : Bindings) (whole : Emitter) (script : S
     pub func : d.draft.func ≡ r.final.func
     pub room : length l + need ≤ h.proto.registers
 
-  -- a statement's run goes along with its code, behind which these slots are in use
+  -- a statement's run goes along with its code, behind which these slots are in use, where this was seen before it
   pub record Goes (s : Stat) (declares : ℕ) (h : Here p most) (r : Runs p most b whole script h) (ps : List Part) (l : List Slot) (j : Jumps)
-      (d d' : Emitter) : Type 0 where
+      (d d' : Emitter) (from : Sight) : Type 0 where
     pub after : ℕ → List Slot
     pub runs : StatRuns p most s h l j (here d) (here d') after
     pub at : (c : ℕ) → At p most b whole script h r ps (after c) d'
     pub above : (c : ℕ) → Above (after c) l
     pub count : (c : ℕ) → length (after c) ≡ length l + declares
+    pub sight_is : (c : ℕ) → (at c).sight ≡ behind (stat s) from
 
   pub record Does (s : Stat) (c : StatCode) : Type 0 where
     pub declares : c.declares ≡ (need_stat s).declares
     pub goes : (h : Here p most) (r : Runs p most b whole script h) (ps : List Part) (l : List Slot) (d : Emitter) (lp : Loop) (j : Jumps)
-        (place : Place) → Begins h r (stat s ∷ ps) l d (c.run (length l) lp d) (need_stat s).need
-        → InLoop h r lp j l (here (c.run (length l) lp d)) → Allowed s j place → Goes s c.declares h r ps l j d (c.run (length l) lp d)
+        (place : Place) → (st : Begins h r (stat s ∷ ps) l d (c.run (length l) lp d) (need_stat s).need)
+        → InLoop h r lp j l (here (c.run (length l) lp d)) → Allowed s j place
+        → Goes s c.declares h r ps l j d (c.run (length l) lp d) st.at.sight
 
   -- its own code does what it does
   abbrev pub Performs : Stat → Type 0
@@ -130,12 +144,17 @@ module _ (p : Setting) (most : ℕ) (b : Bindings) (whole : Emitter) (script : S
   -- ---- a statement behind which the slots are those from before
 
   pub plain_goes : (s : Stat) (x : StatLevel) (h : Here p most) (r : Runs p most b whole script h) (ps : List Part) (l : List Slot) (j : Jumps)
-      (d d' : Emitter) → out-StatKind s.kind ≡ x → ((n : ℕ) → stat_shows x n ≡ []) → Keeps d d' → At p most b whole script h r (stat s ∷ ps) l d
-      → StatRuns p most s h l j (here d) (here d') (λ c. l) → Goes s 0 h r ps l j d d'
+      (d d' : Emitter) → out-StatKind s.kind ≡ x → ((n : ℕ) → stat_shows x n ≡ []) → Keeps d d'
+      → (a : At p most b whole script h r (stat s ∷ ps) l d) → StatRuns p most s h l j (here d) (here d') (λ c. l)
+      → Goes s 0 h r ps l j d d' a.sight
   plain_goes s x h r ps l j d d' is quiet k a runs = record {
     after = λ c. l;
     runs = runs;
     at = λ c. next_quiet h r (stat s) ps l d' (stat_quiet h r s x is quiet) (kept p most b whole script h r (stat s ∷ ps) l d d' k a);
     above = λ c. same;
     count = λ c. omega arith;
+    sight_is = λ c.
+        let a2 = kept p most b whole script h r (stat s ∷ ps) l d d' k a in
+        next_sight h r (stat s) ps l d' (stat_quiet h r s x is quiet) a2
+        ∙ ap (behind (stat s)) (kept_sight p most b whole script h r (stat s ∷ ps) l d d' k a);
   }
