@@ -13,10 +13,11 @@ use Rattle.syntax_tree.specs.Proper.{IsProper}
 use Rattle.value_model.specs.declared.event.Reply.{Reply}
 use Rattle.value_model.specs.Fresh.{HostFields}
 use Rattle.op_words.specs.Chunks.{ChunkOf}
+use Rattle.checked_runs.proofs.Never.{code_is_never_stuck}
 use Rattle.script_compiler.specs.Compiled.{IsCompiled}
 use Rattle.compiled_runs.specs.Built.{built_func}
 use Rattle.built_scripts.proofs.Trees as built_scripts
-use Rattle.compiled_scripts.specs.Laws.{IsAccepted, RunAlike, BuiltRunAlike, ScriptsRunAlike, ParsedAccepted}
+use Rattle.compiled_scripts.specs.Laws.{IsAccepted, RunAlike, BuiltRunAlike, ScriptsRunAlike, NeverStuck, ParsedAccepted}
 use Rattle.compiled_scripts.proofs.Scripts.{runs_alike}
 
 -- numbers change no parameters
@@ -48,3 +49,8 @@ built_run_alike texts tree b chunk a built c host replies turns =
 pub scripts_run_alike : ScriptsRunAlike
 scripts_run_alike texts tree b chunk a none c host replies turns =
     built_run_alike texts tree b chunk a (built_scripts.built_scripts texts b tree.main a.proper none) c host replies turns
+
+pub never_stuck : NeverStuck
+never_stuck texts tree b chunk a built c well host replies turns r run =
+    let q = (built_run_alike texts tree b chunk a built c host replies turns).to_chunk r run in
+    λ stuck. code_is_never_stuck chunk well host replies turns q.0 q.1 (sym q.2.end ∙ stuck)

@@ -1,6 +1,6 @@
 //! Laws of compiled scripts.
 
-ghost use Rattle.compiled_scripts.specs.Laws.{ParsedAccepted, BuiltRunAlike, ScriptsRunAlike};
+ghost use Rattle.compiled_scripts.specs.Laws.{ParsedAccepted, BuiltRunAlike, ScriptsRunAlike, NeverStuck};
 
 /// A tree that the parser makes is accepted with its bindings, if it breaks no rule of scopes and sizes.
 pub fn parsed_accepted()
@@ -16,4 +16,9 @@ pub fn built_run_alike()
 /// The same where no node of the script is unbuilt.
 pub fn scripts_run_alike()
     ensures { ScriptsRunAlike }
+{}
+
+/// Where the chunk is well formed, the script's run never ends for lack of a rule.
+pub fn never_stuck()
+    ensures { NeverStuck }
 {}

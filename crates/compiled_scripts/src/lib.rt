@@ -3,4 +3,4 @@
 
 mod laws;
 
-pub use laws::{built_run_alike, parsed_accepted, scripts_run_alike};
+pub use laws::{built_run_alike, never_stuck, parsed_accepted, scripts_run_alike};
