@@ -1,5 +1,5 @@
 -- In a script that breaks no rule of scopes and sizes, no part breaks one where it stands.
-use Rattle.std.proofs.Common.{rules, ◌≡◌, ℕ, ◌+◌, ◌≤◌, Bool, true, false, List, [], ◌∷◌, ◌++◌, length, map, Option, Some, None, nat_lt, if◌then◌else◌, refl, sym, ap, ◌∙◌, subst, arith, append-nil}
+use Rattle.std.proofs.Common.{rules, ◌≡◌, ℕ, ◌+◌, ◌≤◌, Bool, true, false, List, [], ◌∷◌, ◌++◌, length, map, Some, None, nat_lt, if◌then◌else◌, refl, sym, ap, ◌∙◌, subst, arith, append-nil}
 use Rattle.std.proofs.lemmas.Bool.Decides.{nat_tests}
 use Rattle.syntax_tree.specs.declared.bindings.Bindings.{Bindings}
 use Rattle.syntax_tree.specs.declared.fault.ScopeFault.{ScopeFault}
@@ -25,7 +25,7 @@ use Rattle.syntax_tree.specs.Rules as scopes
 use Rattle.syntax_tree.specs.Rules.{StatRules, rules_expr, rules_stat, rules_func, rules_arm, rules_expr_arm, rules_field}
 use Rattle.syntax_tree.specs.Sizes as sizes
 use Rattle.syntax_tree.specs.Sizes.{in_all, sizes_in_expr, sizes_in_stat, sizes_in_arm, sizes_in_expr_arm, sizes_in_field, sizes_in_func, sizes_in_block, size_faults, all_sizes}
-use Rattle.scope_laws.specs.Sight.{Sight, Part, expr, stat, function, arm, expr_arm, field, block, ExprLevel, FieldLevel, StatLevel, visible, step, else_block, expr_parts, field_parts, in_stat, in_part, itself, next, enter, Sees}
+use Rattle.scope_laws.specs.Sight.{Sight, Part, expr, stat, function, arm, expr_arm, field, block, ExprLevel, FieldLevel, StatLevel, visible, expr_parts, field_parts, in_stat, in_part, itself, next, enter, Sees}
 use Rattle.scope_laws.proofs.Levels as levels
 use Rattle.link_laws.proofs.SizeLevels as size_levels
 use Rattle.link_laws.proofs.Walks.{left, right}

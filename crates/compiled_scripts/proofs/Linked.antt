@@ -1,5 +1,5 @@
 -- A compiled script's chunk has the linked code of each function that was emitted, and the texts of the strings.
-use Rattle.std.proofs.Common.{◌≡◌, ℕ, zero, suc, ◌+◌, ◌≤◌, ◌^◌, min, max, List, [], ◌∷◌, ◌++◌, length, map, Option, Some, refl, sym, ap, ◌∙◌, subst, arith, length-append}
+use Rattle.std.proofs.Common.{◌≡◌, ℕ, zero, suc, ◌+◌, ◌≤◌, min, max, List, [], ◌∷◌, length, map, Some, refl, sym, ap, ◌∙◌, subst, arith, length-append}
 use Rattle.std.specs.Prelude.{slice_get}
 use Rattle.std.proofs.lemmas.Option.{unwrap_or-slice_get}
 use Rattle.byte_text.specs.declared.fixed.StrId.{StrId}
@@ -15,12 +15,12 @@ use Rattle.code_link.specs.declared.item.Item.TheVariants as item
 use Rattle.emit_expr.specs.declared.draft.Emitter.{Emitter}
 use Rattle.emit_expr.specs.declared.draft.Prototype.{Prototype}
 use Rattle.emit_expr.specs.Puts.{start}
-use Rattle.emit_expr.specs.Names.{upvalues_at}
 use Rattle.node_code.specs.Code.{script_code}
 use Rattle.scope_laws.specs.Sight.{Sight, Part, function, Sees}
 use Rattle.function_registers.specs.declared.walk.FuncRegisters.{FuncRegisters}
 use Rattle.function_registers.specs.Registers.{all_entries, registers_of}
 use Rattle.register_laws.proofs.Rising.{registers_found}
+use Rattle.count_laws.specs.Laws.{HasFew, HaveFew}
 use Rattle.operand_laws.specs.Fitting as operands
 use Rattle.operand_laws.specs.Laws.{IsFitting, AreFitting}
 use Rattle.script_compiler.specs.Compiled as compiled
@@ -29,7 +29,7 @@ use Rattle.compiled_runs.proofs.Scopes.{same_some, some_none}
 use Rattle.compiled_runs.proofs.Reading.{AllFit}
 use Rattle.compiled_runs.proofs.Functions.{finished, its_prototype}
 use Rattle.compiled_runs.proofs.Bodies.{func_protos}
-use Rattle.compiled_runs.proofs.Chunks.{Linked, LinkedAt, Chunk}
+use Rattle.compiled_runs.proofs.Chunks.{Linked, Chunk}
 
 -- ---- lists
 
@@ -54,6 +54,11 @@ fitting_there [] h n p e = some_none e
 fitting_there (x ∷ ps) h zero p e = subst IsFitting (same_some e) h.0
 fitting_there (x ∷ ps) h (suc n) p e = fitting_there ps h.1 n p e
 
+few_there : (b : Bindings) (ps : List Prototype) → HaveFew b ps → (n : ℕ) (p : Prototype) → slice_get ps n ≡ Some p → HasFew b p
+few_there b [] h n p e = some_none e
+few_there b (x ∷ ps) h zero p e = subst (HasFew b) (same_some e) h.0
+few_there b (x ∷ ps) h (suc n) p e = few_there b ps h.1 n p e
+
 fields_fit : (count : ℕ) (items : List Item) → operands.AllFit count items → AllFit items
 fields_fit count [] h = tt
 fields_fit count (item.Insn i ∷ is) h = (h.0.fit, fields_fit count is h.1)
@@ -69,6 +74,7 @@ text_there texts (y ∷ xs) (suc i) x e = text_there texts xs i x e
 -- ---- a script
 
 module _ (main : FuncBody) (b : Bindings) (texts : List (List ℕ)) (chunk : ChunkOf) (fitting : AreFitting (script_code b (numbered main).main).protos)
+    (counts : HaveFew b (script_code b (numbered main).main).protos)
     (few_registers : (f : FuncBody) (s : Sight) (after : List Part) → Sees (numbered main).main s (function f ∷ after) → need f ≤ 250)
     (c : IsCompiled (numbered main) b texts chunk) where
   abbrev tree : Tree
@@ -83,23 +89,25 @@ module _ (main : FuncBody) (b : Bindings) (texts : List (List ℕ)) (chunk : Chu
   there : (n : ℕ) (q : Prototype) → slice_get whole.protos n ≡ Some q → LinkedThere (all_entries tree.main) b q chunk.protos n
   there n q e = linked_there (all_entries tree.main) b whole.protos chunk.protos c.protos n q e
 
-  linked : (q : Prototype) (proto : ProtoOf) → IsFitting q → IsLinkedProto (all_entries tree.main) b q proto → Linked b q proto
-  linked q proto f l =
-      let few = l.small.params in
-      let fewer = l.small.upvalues in
+  linked : (q : Prototype) (proto : ProtoOf) → IsFitting q → HasFew b q → IsLinkedProto (all_entries tree.main) b q proto → Linked b q proto
+  linked q proto f few l =
+      let few_params = f.few_params in
       let params = l.params in
+      let captured = few.upvalues in
       let upvalues = l.upvalues in
+      let constants = few.constants in
+      let children = few.children in
       record {
-        params = omega (arith, few, params);
+        params = omega (arith, few_params, params);
         vararg = l.vararg;
-        upvalues = omega (arith, fewer, upvalues);
+        upvalues = omega (arith, captured, upvalues);
         fits = fields_fit (max (need f.func) 1) q.items f.fits;
         code = l.code;
         constants = l.consts;
         children = l.children;
-        few_constants = l.small.constants;
-        few_children = l.small.children;
-        few_upvalues = omega (arith, fewer);
+        few_constants = omega (arith, constants);
+        few_children = omega (arith, children);
+        few_upvalues = omega (arith, captured);
       }
 
   enough : (n : ℕ) (q : Prototype) (proto : ProtoOf) (f : FuncBody) (s : Sight) (after : List Part) → slice_get whole.protos n ≡ Some q
@@ -127,7 +135,7 @@ module _ (main : FuncBody) (b : Bindings) (texts : List (List ℕ)) (chunk : Chu
   is_chunk = record {
     each = λ n q e.
         let t = there n q e in
-        record { proto = t.proto; found = t.found; linked = linked q t.proto (fitting_there whole.protos fitting n q e) t.linked };
+        record { proto = t.proto; found = t.found; linked = linked q t.proto (fitting_there whole.protos fitting n q e) (few_there b whole.protos counts n q e) t.linked };
     registers = enough;
     few = c.few_protos;
     main_last = last;

@@ -1,5 +1,5 @@
 -- Where no loop is around a statement that breaks no rule, no `continue` in it ends a turn of a loop around it.
-use Rattle.std.proofs.Common.{rules, ◌≡◌, ℕ, ◌+◌, Bool, true, false, ◌||◌, List, [], ◌∷◌, ◌++◌, map, Option, Some, None, refl, sym, ap, ◌∙◌, subst, if◌then◌else◌}
+use Rattle.std.proofs.Common.{rules, ◌≡◌, ℕ, ◌+◌, Bool, true, false, ◌||◌, List, [], ◌∷◌, ◌++◌, map, Some, None, refl, sym, ap, ◌∙◌, subst, if◌then◌else◌}
 use Rattle.syntax_tree.specs.declared.notes.Place.{Place}
 use Rattle.syntax_tree.specs.declared.tree.Arm.{Arm, out-Arm, roll-Arm}
 use Rattle.syntax_tree.specs.declared.tree.ExprKind.TheFolds as folds
@@ -84,10 +84,12 @@ arms_end (a ∷ l) p r e =
 -- ---- the parts of the tree
 
 abbrev stat_kind_with : Type 0
-stat_kind_with = induction.stat_kind_with (λ _. Unit {0}) (λ _. Unit {0}) stat_kind_ok arm_ok (λ _. Unit {0}) (λ _. Unit {0}) (λ _. Unit {0}) (λ _. Unit {0}) stat_ok
+stat_kind_with = induction.stat_kind_with (λ _. Unit {0}) (λ _. Unit {0}) stat_kind_ok arm_ok (λ _. Unit {0}) (λ _. Unit {0}) (λ _. Unit {0})
+    (λ _. Unit {0}) stat_ok
 
 abbrev stat_kind_parts : stat_kind_with → StatLevel
-stat_kind_parts y = induction.stat_kind_parts (λ _. Unit {0}) (λ _. Unit {0}) stat_kind_ok arm_ok (λ _. Unit {0}) (λ _. Unit {0}) (λ _. Unit {0}) (λ _. Unit {0}) stat_ok y
+stat_kind_parts y = induction.stat_kind_parts (λ _. Unit {0}) (λ _. Unit {0}) stat_kind_ok arm_ok (λ _. Unit {0}) (λ _. Unit {0}) (λ _. Unit {0})
+    (λ _. Unit {0}) stat_ok y
 
 around : (t : Bool) (x : ScopeFault) → (if t then [] else x ∷ []) ≡ [] → t ≡ true
 around true x e = refl
@@ -115,12 +117,16 @@ stat_kind_ends level.Break at p r e = false_true e
 
 -- ---- the induction
 
-stat_kind_step : (y : stat_kind_with) → stat_kind_ok (induction.stat_kind_of (λ _. Unit {0}) (λ _. Unit {0}) stat_kind_ok arm_ok (λ _. Unit {0}) (λ _. Unit {0}) (λ _. Unit {0}) (λ _. Unit {0}) stat_ok y)
+stat_kind_step : (y : stat_kind_with) → stat_kind_ok (induction.stat_kind_of (λ _. Unit {0}) (λ _. Unit {0}) stat_kind_ok arm_ok (λ _. Unit {0})
+    (λ _. Unit {0}) (λ _. Unit {0}) (λ _. Unit {0}) stat_ok y)
 stat_kind_step y = subst StatEnds (sym (out_roll_stat (stat_kind_parts y))) (stat_kind_ends y)
 
-arm_step : (y : induction.arm_with (λ _. Unit {0}) (λ _. Unit {0}) stat_kind_ok arm_ok (λ _. Unit {0}) (λ _. Unit {0}) (λ _. Unit {0}) (λ _. Unit {0}) stat_ok) → arm_ok (induction.arm_of (λ _. Unit {0}) (λ _. Unit {0}) stat_kind_ok arm_ok (λ _. Unit {0}) (λ _. Unit {0}) (λ _. Unit {0}) (λ _. Unit {0}) stat_ok y)
+arm_step : (y : induction.arm_with (λ _. Unit {0}) (λ _. Unit {0}) stat_kind_ok arm_ok (λ _. Unit {0}) (λ _. Unit {0}) (λ _. Unit {0})
+    (λ _. Unit {0}) stat_ok) → arm_ok (induction.arm_of (λ _. Unit {0}) (λ _. Unit {0}) stat_kind_ok arm_ok (λ _. Unit {0}) (λ _. Unit {0})
+    (λ _. Unit {0}) (λ _. Unit {0}) stat_ok y)
 arm_step y =
-    let parts = induction.arm_parts (λ _. Unit {0}) (λ _. Unit {0}) stat_kind_ok arm_ok (λ _. Unit {0}) (λ _. Unit {0}) (λ _. Unit {0}) (λ _. Unit {0}) stat_ok y in
+    let parts = induction.arm_parts (λ _. Unit {0}) (λ _. Unit {0}) stat_kind_ok arm_ok (λ _. Unit {0}) (λ _. Unit {0}) (λ _. Unit {0})
+    (λ _. Unit {0}) stat_ok y in
     let here : ArmEnds parts = λ p r e. block_ends y.body p (right (rules_expr y.cond.0 p) _ r) e in
     subst ArmEnds (sym (out_roll_arm parts)) here
 
@@ -139,11 +145,13 @@ all_steps = record {
   expr_arm = λ _. tt;
   field = λ _. tt;
   func = λ _. tt;
-  stat = λ y. stat_from (induction.stat_of (λ _. Unit {0}) (λ _. Unit {0}) stat_kind_ok arm_ok (λ _. Unit {0}) (λ _. Unit {0}) (λ _. Unit {0}) (λ _. Unit {0}) stat_ok y) y.kind.1;
+  stat = λ y. stat_from (induction.stat_of (λ _. Unit {0}) (λ _. Unit {0}) stat_kind_ok arm_ok (λ _. Unit {0}) (λ _. Unit {0}) (λ _. Unit {0})
+      (λ _. Unit {0}) stat_ok y) y.kind.1;
 }
 
 in_loop_around : (s : Stat) → stat_ok s
-in_loop_around s = induction.all_stat (λ _. Unit {0}) (λ _. Unit {0}) stat_kind_ok arm_ok (λ _. Unit {0}) (λ _. Unit {0}) (λ _. Unit {0}) (λ _. Unit {0}) stat_ok all_steps s
+in_loop_around s = induction.all_stat (λ _. Unit {0}) (λ _. Unit {0}) stat_kind_ok arm_ok (λ _. Unit {0}) (λ _. Unit {0}) (λ _. Unit {0})
+    (λ _. Unit {0}) stat_ok all_steps s
 
 -- where a turn of a loop around them is ended, there is one
 pub ends_in_loop : (ss : List Stat) → BlockEnds ss

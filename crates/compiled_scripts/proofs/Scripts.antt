@@ -1,10 +1,8 @@
 -- Each run of an accepted script all of whose nodes are built is one of its chunk, and the other way round.
-use Rattle.std.proofs.Common.{◌≡◌, ℕ, ◌≤◌, Bool, true, false, List, [], ◌∷◌, ◌++◌, map, Some, None, refl, sym, ap, ◌∙◌, subst}
+use Rattle.std.proofs.Common.{◌≡◌, ℕ, ◌≤◌, true, false, List, [], ◌∷◌, refl, sym, subst}
 use Rattle.byte_text.specs.declared.fixed.StrId.{StrId}
 use Rattle.syntax_tree.specs.declared.bindings.Bindings.{Bindings}
-use Rattle.syntax_tree.specs.declared.tree.Expr.{Expr}
 use Rattle.syntax_tree.specs.declared.tree.FuncBody.{FuncBody, out-FuncBody}
-use Rattle.syntax_tree.specs.declared.tree.Stat.{Stat}
 use Rattle.syntax_tree.specs.declared.tree.Tree.{Tree}
 use Rattle.syntax_tree.specs.Bound.{bound, known, faults}
 use Rattle.syntax_tree.specs.Need.{need}
@@ -20,18 +18,16 @@ use Rattle.emit_expr.specs.declared.draft.Emitter.{Emitter}
 use Rattle.node_code.specs.Code.{script_code}
 use Rattle.scope_laws.specs.Sight.{Sight, Part, function, Sees}
 use Rattle.link_laws.proofs.Walks.{left, right}
+use Rattle.count_laws.specs.Laws.{HaveFew}
+use Rattle.count_laws.proofs.Counts.{counts_are_few}
 use Rattle.operand_laws.specs.Laws.{AreFitting}
 use Rattle.operand_laws.proofs.Whole.{operands_fit}
 use Rattle.script_compiler.specs.Compiled.{IsCompiled}
 use Rattle.code_simulation.specs.Relation.{Setting}
-use Rattle.code_simulation.proofs.Along.{CallsGo}
 use Rattle.code_simulation.proofs.Blocks.{outside}
 use Rattle.code_simulation.proofs.Promises.{setting}
 use Rattle.compiled_runs.specs.Built.{built_func}
 use Rattle.compiled_runs.proofs.Standing.{Script}
-use Rattle.compiled_runs.proofs.Leaves.{Holds}
-use Rattle.compiled_runs.proofs.Turns.{any, ends_turn}
-use Rattle.compiled_runs.proofs.Repeats.{EarlyTries}
 use Rattle.compiled_runs.proofs.Blocks.{AllAllowed}
 use Rattle.compiled_runs.proofs.Chunks.{Chunk, CodeOf}
 use Rattle.compiled_runs.proofs.Bodies.{in_function}
@@ -77,6 +73,9 @@ module _ (main : FuncBody) (b : Bindings) (texts : List (List ℕ)) (chunk : Chu
   pub fitting : AreFitting whole.protos
   fitting = subst (λ x. AreFitting (script_code x tree.main).protos) (sym is) (operands_fit main proper sound)
 
+  pub counts : HaveFew b whole.protos
+  counts = subst (λ x. HaveFew x (script_code x tree.main).protos) (sym is) (counts_are_few main sound c.few_nodes)
+
   pub few : (f : FuncBody) (s : Sight) (after : List Part) → Sees tree.main s (function f ∷ after) → need f ≤ 250
   few f s after sees = few_registers b f (each_clear f s after sees).1
 
@@ -85,12 +84,12 @@ module _ (main : FuncBody) (b : Bindings) (texts : List (List ℕ)) (chunk : Chu
     main = main;
     is = is;
     few_locals = c.few_locals;
-    strings = linked.strings main b texts chunk fitting few c;
+    strings = linked.strings main b texts chunk fitting counts few c;
     few_strings = c.few_strings;
   }
 
   abbrev pub is_chunk : Chunk p.chunk b whole tree.main
-  is_chunk = linked.is_chunk main b texts chunk fitting few c
+  is_chunk = linked.is_chunk main b texts chunk fitting counts few c
 
   abbrev pub code_is : (f : FuncBody) (n : ℕ) (around : Environment) (ups : List StrId) (proto : ProtoOf) → CodeOf b whole tree.main f around ups proto
       → p.IsCode f n around ups proto
@@ -112,12 +111,14 @@ module _ (main : FuncBody) (b : Bindings) (texts : List (List ℕ)) (chunk : Chu
         continues = λ e. false_true (ends_in_loop (out-FuncBody f).body _ rule e);
       }
 
-  module _ (early : (most deep left : ℕ) (body : List Stat) (cond : Expr) (calls : (i : ℕ) → i ≤ left → CallsGo (setting p most deep) i)
-      → any (map ends_turn body) ≡ true → Holds (setting p most deep) left calls b whole (script_in most deep script) cond
-      → EarlyTries (setting p most deep) left b whole (script_in most deep script) body cond) where
-    pub runs_alike : (host : HostFields) (replies : List Reply) (n : ℕ) → RunAlike texts tree chunk host replies n
-    runs_alike host replies n = record {
-      to_chunk = trees.to_code p b whole script is_chunk code_is is_code refl built proper early allowed host replies none n;
-      to_script = trees.to_source p b whole script is_chunk code_is is_code refl built proper early allowed host replies none n;
-      ends = trees.ends p b whole script is_chunk code_is is_code refl built proper early allowed host replies none n;
-    }
+  -- no condition of a `repeat` names a local that the early end of a turn skips
+  clean : (known tree).faults ≡ []
+  clean = left _ _ sound
+
+  -- each run of the script is one of its chunk, and the other way round
+  pub runs_alike : (host : HostFields) (replies : List Reply) (n : ℕ) → RunAlike texts tree chunk host replies n
+  runs_alike host replies n = record {
+    to_chunk = trees.to_code p b whole script is_chunk code_is is_code refl built proper clean allowed host replies none n;
+    to_script = trees.to_source p b whole script is_chunk code_is is_code refl built proper clean allowed host replies none n;
+    ends = trees.ends p b whole script is_chunk code_is is_code refl built proper clean allowed host replies none n;
+  }

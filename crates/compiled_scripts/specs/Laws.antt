@@ -1,5 +1,5 @@
 -- What the runs of a script have to do with those of its chunk.
-use Rattle.std.specs.Prelude.{◌≡◌, ℕ, List, [], true, None}
+use Rattle.std.specs.Prelude.{◌≡◌, ◌≢◌, ℕ, List, [], true, None}
 use Rattle.syntax_tree.specs.declared.bindings.Bindings.{Bindings}
 use Rattle.syntax_tree.specs.declared.token.Token.{Token}
 use Rattle.syntax_tree.specs.declared.tree.FuncBody.{out-FuncBody}
@@ -11,12 +11,14 @@ use Rattle.unbuilt_nodes.specs.Unbuilt.{unbuilt_in_func}
 use Rattle.value_model.specs.declared.event.EventKind.{EventKind}
 use Rattle.value_model.specs.declared.event.Reply.{Reply}
 use Rattle.value_model.specs.Fresh.{HostFields}
+use Rattle.value_model.specs.Waits.{Stuck}
 use Rattle.bounded_runs.specs.Runs.{Report, Agree}
 use Rattle.source_meaning.specs.Moves as source
 use Rattle.source_meaning.specs.Runs.{SourceRun}
 use Rattle.op_words.specs.Chunks.{ChunkOf}
 use Rattle.machine_meaning.specs.Moves as machine
 use Rattle.machine_meaning.specs.Runs.{MachineRun}
+use Rattle.machine_meaning.specs.WellFormed.{IsWellFormed}
 use Rattle.script_compiler.specs.Compiled.{IsNumbered, IsCompiled}
 use Rattle.compiled_runs.specs.Built.{built_func}
 
@@ -53,3 +55,9 @@ abbrev pub ScriptsRunAlike : Type 0
 ScriptsRunAlike = (texts : List (List ℕ)) (tree : Tree) (b : Bindings) (chunk : ChunkOf) → IsAccepted tree b →
     unbuilt_in_func texts b tree.main ≡ None → IsCompiled tree b texts chunk → (host : HostFields) (replies : List Reply) (turns : ℕ) →
     RunAlike texts tree chunk host replies turns
+
+-- Where that chunk is well formed besides, no report of the script's run ends for lack of a rule
+abbrev pub NeverStuck : Type 0
+NeverStuck = (texts : List (List ℕ)) (tree : Tree) (b : Bindings) (chunk : ChunkOf) → IsAccepted tree b → built_func tree.main ≡ true →
+    IsCompiled tree b texts chunk → IsWellFormed chunk → (host : HostFields) (replies : List Reply) (turns : ℕ) (r : Report EventKind source.Look) →
+    SourceRun texts tree host replies turns r → r.end ≢ Stuck

@@ -3,4 +3,4 @@
 
 mod laws;
 
-pub use laws::parsed_accepted;
+pub use laws::{built_run_alike, never_stuck, parsed_accepted, scripts_run_alike};

@@ -260,4 +260,4 @@ func_fine b body_of id params vararg ss ns g number sum few count func to d most
     let o1 = insn count func (i.NewClosure to (puts.short (length d.draft.children))) (puts.with_draft d.draft d4) (insns.new_closure count most to (length d.draft.children) lt) o0 in
     let o2 = child_fine count func (length d4.protos) _ o1 in
     let o3 = captures_fine count func most b (names.upvalues_at b d4.draft.func) _ o2 in
-    prototype_fine count func (puts.done params vararg d4.draft) _ (record { func = body_of; number = number ∙ sym f4.named; few = few; fits = f4.items }) o3
+    prototype_fine count func (puts.done params vararg d4.draft) _ (record { func = body_of; number = number ∙ sym f4.named; few = few; few_params = omega (arith, sum, few); fits = f4.items }) o3

@@ -9,11 +9,12 @@ use Rattle.emit_expr.specs.declared.draft.Prototype.{Prototype}
 use Rattle.node_code.specs.Code.{script_code}
 use Rattle.operand_laws.specs.Fitting.{AllFit}
 
--- The code was emitted for a function, and its instructions fit as many registers as that function needs, or one
+-- The code was emitted for a function of few parameters, and its instructions fit as many registers as that function needs, or one
 pub record IsFitting (p : Prototype) : Type 0 where
   pub func : FuncBody
   pub number : (out-FuncBody func).id ≡ p.func
   pub few : need func ≤ 250
+  pub few_params : p.params ≤ 250
   pub fits : AllFit (max (need func) 1) p.items
 
 abbrev pub AreFitting : List Prototype → Type 0

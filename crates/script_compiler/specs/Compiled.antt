@@ -23,13 +23,6 @@ pub record IsNumbered (tree : Tree) : Type 0 where
 abbrev pub text_of : (texts : List (List ℕ)) → StrId → List ℕ
 text_of texts id = unwrap_or (slice_get texts id.0) []
 
--- what was emitted for a function takes no more parameters and variables, and names no more constants and children, than fields can tell
-pub record IsSmall (b : Bindings) (p : Prototype) : Type 0 where
-  pub params : p.params ≤ 255
-  pub upvalues : length (upvalues_at b p.func) ≤ 255
-  pub constants : length p.constants ≤ 32768
-  pub children : length p.children ≤ 32768
-
 -- A function of the chunk: what was emitted for it, with its code linked, and as many registers and upvalues as the function has
 pub record IsLinkedProto (sizes : List FuncRegisters) (b : Bindings) (p : Prototype) (q : ProtoOf) : Type 0 where
   pub registers : q.registers ≡ registers_in p.func sizes
@@ -39,7 +32,6 @@ pub record IsLinkedProto (sizes : List FuncRegisters) (b : Bindings) (p : Protot
   pub code : IsLinked p.items q.code
   pub consts : q.consts ≡ p.constants
   pub children : q.children ≡ p.children
-  pub small : IsSmall b p
 
 -- one for each function, in the same order
 abbrev pub AreLinked : List FuncRegisters → Bindings → List Prototype → List ProtoOf → Type 0
@@ -49,11 +41,12 @@ AreLinked sizes b [] (q ∷ qs) = ⊥
 AreLinked sizes b (p ∷ ps) [] = ⊥
 
 -- The chunk of a script: the texts of the strings that its code names, and its functions in the order in which their texts end, the main
--- function last. There are no more of them than numbers of 32 bits
+-- function last. The tree is no larger than memory, and there are no more strings and functions than numbers of 32 bits
 pub record IsCompiled (tree : Tree) (b : Bindings) (texts : List (List ℕ)) (chunk : ChunkOf) : Type 0 where
   pub strings : chunk.strings ≡ map (text_of texts) (script_code b tree.main).strings
   pub protos : AreLinked (all_entries tree.main) b (script_code b tree.main).protos chunk.protos
   pub main : chunk.main ≡ long (length (script_code b tree.main).protos - 1)
+  pub few_nodes : tree.nodes ≤ 2 ^ 62
   pub few_strings : length (script_code b tree.main).strings ≤ 2 ^ 32
   pub few_protos : length (script_code b tree.main).protos ≤ 2 ^ 32
   pub few_locals : length b.locals < 2 ^ 64

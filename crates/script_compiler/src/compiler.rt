@@ -39,10 +39,8 @@ fn is_numbered(bindings: &Bindings, code: &Emitter) -> bool
 /// The tree's nodes are numbered in source order, it breaks no rule of scopes and sizes, and the bindings are its own. The facts and the
 /// level change nothing yet.
 ///
-/// The only error is want of memory. It is also the answer where the chunk's format has no numbers left: for more than 2^32 functions or
-/// strings, and for a function of more than 255 parameters or captured variables, 32,768 constants or 32,768 functions in it. The rules
-/// of scopes and sizes let no function have so many: at most 200 of the former, and a bulk of 30,000, of which each constant takes six and
-/// each function in it as many.
+/// The only error is want of memory. It is also the answer where there are more than 2^32 functions or strings, which the numbers of a chunk
+/// cannot tell.
 pub fn compile(
     alloc: Global,
     tree: &Tree,

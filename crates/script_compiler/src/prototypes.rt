@@ -1,11 +1,12 @@
 //! The code of a script's functions is linked.
 
-ghost use Rattle.std.specs.Prelude.{◌≡◌, true, length, map, IfOk};
+ghost use Rattle.std.specs.Prelude.{◌≡◌, length, map, IfOk};
 ghost use Rattle.op_words.specs.Chunks.{proto_of};
 ghost use Rattle.code_link.specs.Labels.{IsLinkable};
+ghost use Rattle.emit_expr.specs.Puts.{narrow};
 ghost use Rattle.emit_expr.specs.Names.{upvalues_at};
 ghost use Rattle.link_laws.specs.Laws.{AreLinkable};
-ghost use Rattle.script_compiler.specs.Compiled.{IsSmall, IsLinkedProto, AreLinked};
+ghost use Rattle.script_compiler.specs.Compiled.{IsLinkedProto, AreLinked};
 
 use code_link::{Labelled, Linked, link};
 use emit_expr::{Prototype, narrow};
@@ -15,30 +16,14 @@ use resource::OutOfMemory;
 use std::alloc::Global;
 use syntax_tree::Bindings;
 
-// A field tells no more parameters or captured variables of a function.
-const MOST_VARIABLES: usize = 255;
-
-// A field names no more constants or children.
-const MOST_NAMED: usize = 32768;
-
-// How many variables a function captures.
-fn upvalue_count(bindings: &Bindings, func: usize) -> usize
-    ensures { result ≡ length (upvalues_at bindings.now func) }
+// How many variables a function captures; 255 where they are more.
+fn upvalue_count(bindings: &Bindings, func: usize) -> u8
+    ensures { result ≡ narrow (length (upvalues_at bindings.now func)) }
 {
     match bindings.upvalues.get(func) {
-        Some(list) => list.len(),
+        Some(list) => narrow(list.len()),
         None => 0,
     }
-}
-
-// Whether the fields can tell and name what a function has.
-fn is_small(bindings: &Bindings, proto: &Prototype) -> bool
-    ensures { result ≡ true → IsSmall bindings.now proto.now }
-{
-    proto.params <= MOST_VARIABLES
-        && upvalue_count(bindings, proto.func) <= MOST_VARIABLES
-        && proto.constants.len() <= MOST_NAMED
-        && proto.children.len() <= MOST_NAMED
 }
 
 fn link_proto(
@@ -50,9 +35,6 @@ fn link_proto(
     requires { IsLinkable proto.now.items }
     ensures { IfOk result (λ linked. IsLinkedProto sizes.now bindings.now proto.now (proto_of linked)) }
 {
-    if !is_small(bindings, proto) {
-        return Err(OutOfMemory);
-    }
     let items = Vec::from_slice(alloc, proto.items.as_slice())?;
     let Linked { code } = link(alloc, Labelled { items })?;
     let consts = Vec::from_slice(alloc, proto.constants.as_slice())?;
@@ -60,7 +42,7 @@ fn link_proto(
     Ok(Proto {
         registers: registers_at(sizes, proto.func),
         params: narrow(proto.params),
-        upvalues: narrow(upvalue_count(bindings, proto.func)),
+        upvalues: upvalue_count(bindings, proto.func),
         vararg: proto.vararg,
         code,
         consts,

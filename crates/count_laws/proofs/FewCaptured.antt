@@ -1,9 +1,8 @@
 -- In a script that breaks no rule no function captures more than 200 variables: by induction over the tree.
-use Rattle.std.proofs.Common.{rules, ◌≡◌, ℕ, zero, suc, ◌+◌, ◌≤◌, Bool, true, false, List, [], ◌∷◌, ◌++◌, length, map, drop, Option, Some, None, refl, sym, ap, ◌∙◌, subst, arith}
+use Rattle.std.proofs.Common.{◌≡◌, ℕ, zero, suc, ◌+◌, ◌≤◌, Bool, true, false, List, [], ◌∷◌, ◌++◌, length, map, drop, Some, None, refl, sym, ap, ◌∙◌, subst, arith}
 use Rattle.std.specs.Prelude.{slice_get, slice_set, unwrap_or}
 use Rattle.byte_text.specs.declared.fixed.StrId.{StrId}
 use Rattle.syntax_tree.specs.declared.notes.Capture.{Capture}
-use Rattle.syntax_tree.specs.declared.notes.Leap.{Leap}
 use Rattle.syntax_tree.specs.declared.notes.Note.{Note}
 use Rattle.syntax_tree.specs.declared.tree.Arm.{Arm}
 use Rattle.syntax_tree.specs.declared.tree.Expr.{Expr}
@@ -278,13 +277,15 @@ kind_good (level.ExprKind::If arms e) = of_parts _ (both (block_good _ (choices_
 kind_good (level.Interp ts es) = of_parts _ (all_good false _ (exprs_good es))
 
 field_kind_good : (y : field_kind_with)
-    → Good (levels.at_field_level names.steps (induction.field_kind_parts kind_ok field_kind_ok stat_kind_ok arm_ok expr_ok choice_ok field_ok func_ok stat_ok y))
+    → Good (levels.at_field_level names.steps (induction.field_kind_parts kind_ok field_kind_ok stat_kind_ok arm_ok expr_ok choice_ok field_ok func_ok
+    stat_ok y))
 field_kind_good (level.Item e) = e.1 false
 field_kind_good (level.Named x e) = e.1 false
 field_kind_good (level.Keyed x y) = both (x.1 false) (y.1 false)
 
 stat_kind_good : (y : stat_kind_with) (at : ℕ)
-    → Good (levels.at_stat_level names.steps (induction.stat_kind_parts kind_ok field_kind_ok stat_kind_ok arm_ok expr_ok choice_ok field_ok func_ok stat_ok y) at)
+    → Good (levels.at_stat_level names.steps (induction.stat_kind_parts kind_ok field_kind_ok stat_kind_ok arm_ok expr_ok choice_ok field_ok func_ok
+    stat_ok y) at)
 stat_kind_good (level.Local xs es) at = statement_good xs _ (all_good false _ (exprs_good es))
 stat_kind_good (level.Assign ts es) at = both (all_good true _ (exprs_good ts)) (all_good false _ (exprs_good es))
 stat_kind_good (level.Compound o t e) at = both (t.1 true) (e.1 false)

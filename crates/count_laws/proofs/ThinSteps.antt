@@ -1,16 +1,10 @@
--- The code of a function has a word at least for each constant and each child that it names: by induction over the tree.
-use Rattle.std.proofs.Common.{◌≡◌, ℕ, ℤ, zero, suc, ◌+◌, ◌-◌, Bool, true, false, not, nat_eq, if◌then◌else◌, List, [], ◌∷◌, ◌++◌, length, take, drop, map, Option, Some, None, refl, sym, ap, ◌∙◌, subst, append_assoc, ◌≤◌, arith, length-append}
+-- The code of each kind of node has a word at least for each constant and each child that it names.
+use Rattle.std.proofs.Common.{ℕ, ℤ, zero, suc, ◌+◌, ◌-◌, Bool, true, false, not, if◌then◌else◌, List, [], ◌∷◌, length, drop, Option, Some, None}
 use Rattle.std.specs.Prelude.{pos}
-use Rattle.std.proofs.lemmas.List.{append-nil}
 use Rattle.byte_text.specs.declared.fixed.StrId.{StrId}
-use Rattle.op_words.specs.declared.chunk.Const.{Const}
 use Rattle.op_words.specs.declared.chunk.Const.TheVariants as constant
-use Rattle.op_words.specs.declared.insn.Insn.{Insn}
 use Rattle.op_words.specs.declared.insn.Insn.TheVariants as i
-use Rattle.op_words.specs.Encoding.{encoded}
-use Rattle.code_link.specs.declared.item.Item.{Item}
 use Rattle.code_link.specs.declared.item.Item.TheVariants as item
-use Rattle.code_link.specs.Labels.{word_count}
 use Rattle.syntax_tree.specs.declared.bindings.Bindings.{Bindings}
 use Rattle.syntax_tree.specs.declared.bindings.Bound.{Bound}
 use Rattle.syntax_tree.specs.declared.bindings.Bound.TheVariants as bound
@@ -18,19 +12,7 @@ use Rattle.syntax_tree.specs.declared.tree.BinOp.{BinOp}
 use Rattle.syntax_tree.specs.declared.tree.BinOp.TheVariants as op
 use Rattle.syntax_tree.specs.declared.tree.UnOp.{UnOp}
 use Rattle.syntax_tree.specs.declared.tree.UnOp.TheVariants as unary
-use Rattle.syntax_tree.specs.declared.tree.ExprKind.{ExprKind}
-use Rattle.syntax_tree.specs.declared.tree.FieldKind.{FieldKind}
-use Rattle.syntax_tree.specs.declared.tree.StatKind.{StatKind}
-use Rattle.syntax_tree.specs.declared.tree.Arm.{Arm}
-use Rattle.syntax_tree.specs.declared.tree.Expr.{Expr}
-use Rattle.syntax_tree.specs.declared.tree.ExprArm.{ExprArm}
-use Rattle.syntax_tree.specs.declared.tree.Field.{Field}
-use Rattle.syntax_tree.specs.declared.tree.FuncBody.{FuncBody}
-use Rattle.syntax_tree.specs.declared.tree.Stat.{Stat}
-use Rattle.syntax_tree.specs.declared.tree.ExprKind.TheOpen as level
-use Rattle.syntax_tree.specs.declared.tree.ExprKind.TheFolds as folds
 use Rattle.emit_expr.specs.declared.draft.Emitter.{Emitter}
-use Rattle.emit_expr.specs.declared.draft.Prototype.{Prototype}
 use Rattle.emit_expr.specs.declared.draft.Loop.{Loop}
 use Rattle.emit_expr.specs.declared.draft.Mark.{Mark}
 use Rattle.emit_expr.specs.Puts as puts
@@ -43,119 +25,7 @@ use Rattle.node_code.specs.Nodes.{ExprCode, StatCode, ArmCode, ChoiceCode, FuncC
 use Rattle.node_code.specs.Lists as lists
 use Rattle.node_code.specs.Conditions as conditions
 use Rattle.node_code.specs.Code as code
-use Rattle.emit_laws.specs.Induction as induction
-use Rattle.link_laws.proofs.Items.{words_insn}
-use Rattle.emit_laws.specs.Induction.{With}
-
--- ---- what is emitted so far
-
--- each constant and each child has a word of the code
-abbrev pub IsThin : Prototype → Type 0
-IsThin p = (length p.constants ≤ word_count p.items) × (length p.children ≤ word_count p.items)
-
-abbrev pub AreThin : List Prototype → Type 0
-AreThin [] = Unit {0}
-AreThin (p ∷ ps) = IsThin p × AreThin ps
-
--- but for so many constants, whose instructions are still to come
-pub record Thin (more : ℕ) (d : Emitter) : Type 0 where
-  pub constants : length d.draft.constants ≤ word_count d.draft.items + more
-  pub children : length d.draft.children ≤ word_count d.draft.items
-  pub protos : AreThin d.protos
-
-pub words_front : (xs : List Item) (x : Item) → word_count xs ≤ word_count (xs ++ x ∷ [])
-words_front [] x = omega arith
-words_front (item.Insn i ∷ xs) x = let h = words_front xs x in omega (arith, h)
-words_front (item.Branch i l ∷ xs) x = let h = words_front xs x in omega (arith, h)
-words_front (item.Label l ∷ xs) x = words_front xs x
-
-pub has_word : (i : Insn) → 1 ≤ length (encoded i)
-has_word i = omega arith
-
-pub thin_last : (ps : List Prototype) (p : Prototype) → AreThin ps → IsThin p → AreThin (ps ++ p ∷ [])
-thin_last [] p h t = (t, tt)
-thin_last (x ∷ ps) p h t = (h.0, thin_last ps p h.1 t)
-
-pub longer_by : {A : Type 0} (k : A) (place : ℕ) (xs : List A) → length (puts.added k place xs) ≤ length xs + 1
-longer_by k place xs = which (nat_eq place (length xs))
-  where
-    which : (z : Bool) → length (if z then xs ++ k ∷ [] else xs) ≤ length xs + 1
-    which true = let e = length-append xs (k ∷ []) in omega (arith, e)
-    which false = omega arith
-
-pub put : (x : Item) (n : ℕ) (d : Emitter) → Thin n d → Thin n (puts.put x d)
-unfolding put_item
-put x n d t =
-    let a = t.constants in
-    let c = t.children in
-    let w = words_front d.draft.items x in
-    record { constants = omega (arith, a, w); children = omega (arith, c, w); protos = t.protos }
-
--- an instruction for one of the constants
-pub used : (i : Insn) (n : ℕ) (d : Emitter) → Thin (n + 1) d → Thin n (puts.insn i d)
-unfolding put_item
-used i n d t =
-    let a = t.constants in
-    let c = t.children in
-    let w = words_insn d.draft.items i in
-    let one = has_word i in
-    record { constants = omega (arith, a, w, one); children = omega (arith, c, w); protos = t.protos }
-
-pub constant_in : (k : Const) (n : ℕ) (d : Emitter) → Thin n d → Thin (n + 1) (puts.with_constant k d)
-unfolding with_constant
-constant_in k n d t =
-    let a = t.constants in
-    let l = longer_by k (puts.constant_place k d) d.draft.constants in
-    record { constants = omega (arith, a, l); children = t.children; protos = t.protos }
-
-pub string_in : (x : StrId) (n : ℕ) (d : Emitter) → Thin n d → Thin n (puts.with_string x d)
-unfolding with_string
-string_in x n d t = record { constants = t.constants; children = t.children; protos = t.protos }
-
-pub text_in : (x : StrId) (n : ℕ) (d : Emitter) → Thin n d → Thin (n + 1) (puts.with_text x d)
-text_in x n d t = constant_in (puts.text_constant x d) n (puts.with_string x d) (string_in x n d t)
-
-pub declared : (number register n : ℕ) (d : Emitter) → Thin n d → Thin n (puts.declare number register d)
-unfolding declare
-declared number register n d t = record { constants = t.constants; children = t.children; protos = t.protos }
-
-pub forgotten : (left n : ℕ) (d : Emitter) → Thin n d → Thin n (puts.forget left d)
-unfolding forget
-forgotten left n d t = record { constants = t.constants; children = t.children; protos = t.protos }
-
-pub all_declared : (number register count n : ℕ) (d : Emitter) → Thin n d → Thin n (names.declare_all number register count d)
-all_declared number register zero n d t = t
-all_declared number register (suc count) n d t = all_declared (names.next_number number) (register + 1) count n _ (declared number register n d t)
-
--- ---- functions
-
--- of a function of which nothing is emitted
-pub blank_thin : (id n : ℕ) (d : Emitter) → Thin n d → Thin 0 (puts.with_draft (puts.blank id) d)
-unfolding with_draft
-blank_thin id n d t = record { constants = omega arith; children = omega arith; protos = t.protos }
-
--- back in the function around
-pub back_thin : (n : ℕ) (d inside : Emitter) → Thin n d → Thin 0 inside → Thin n (puts.with_draft d.draft inside)
-unfolding with_draft
-back_thin n d inside t h = record { constants = t.constants; children = t.children; protos = h.protos }
-
--- a closure is made
-pub child_thin : (number : ℕ) (i : Insn) (n : ℕ) (d : Emitter) → Thin n d → Thin n (puts.with_child number (puts.insn i d))
-unfolding with_child put_item
-child_thin number i n d t =
-    let a = t.constants in
-    let c = t.children in
-    let w = words_insn d.draft.items i in
-    let one = has_word i in
-    let l = length-append d.draft.children (puts.long number ∷ []) in
-    record { constants = omega (arith, a, w); children = omega (arith, c, w, one, l); protos = t.protos }
-
-pub prototype_thin : (q : Prototype) (n : ℕ) (d : Emitter) → Thin n d → IsThin q → Thin n (puts.with_prototype q d)
-unfolding with_prototype
-prototype_thin q n d t h = record { constants = t.constants; children = t.children; protos = thin_last d.protos q t.protos h }
-
-pub done_thin : (params : ℕ) (vararg : Bool) (d : Emitter) → Thin 0 d → IsThin (puts.done params vararg d.draft)
-done_thin params vararg d t = let a = t.constants in (omega (arith, a), t.children)
+use Rattle.count_laws.proofs.ThinStates.{Thin, put, used, constant_in, text_in, declared, forgotten, all_declared, blank_thin, back_thin, child_thin, prototype_thin, done_thin}
 
 -- ---- what is known of the parts
 abbrev pub Go : Step → Type 0
@@ -264,7 +134,8 @@ jump_on_good o run h so to l d d' p = put _ d (nodes.operand_code o (run to 2) d
 pub single_good : (id : ℕ) (run : ℕ → Step) → ((to : ℕ) → Go (run to)) → Good (nodes.single id run)
 single_good id run h = record { run = λ to results. h to; jump = jump_on_good None (λ to results. run to) h }
 
-pub decided_good : (id : ℕ) (run : ℕ → Step) (jump : (so : Bool) → (to label : ℕ) → Step) → ((to : ℕ) → Go (run to)) → ((so : Bool) (to l : ℕ) → Go (jump so to l)) → Good (nodes.decided id run jump)
+pub decided_good : (id : ℕ) (run : ℕ → Step) (jump : (so : Bool) → (to label : ℕ) → Step) → ((to : ℕ) → Go (run to)) → ((so : Bool) (to l : ℕ)
+    → Go (jump so to l)) → Good (nodes.decided id run jump)
 decided_good id run jump h g = record { run = λ to results. h to; jump = g }
 
 pub many_good : (id : ℕ) (run : ℕ → ℕ → Step) → ((to results : ℕ) → Go (run to results)) → Good (nodes.many id run)
@@ -274,7 +145,8 @@ many_good id run h = record { run = h; jump = jump_on_good None run (λ to. h to
 pub number_good : (n : ℤ) (to : ℕ) → Go (operators.number_run n to)
 number_good n to d d' p = which (operators.is_small n)
   where
-    which : (z : Bool) → Thin d (if z then puts.insn (i.LoadN to n) d' else puts.insn (i.LoadK to (puts.short (puts.constant_place (constant.Num n) d'))) (puts.with_constant (constant.Num n) d'))
+    which : (z : Bool) → Thin d (if z then puts.insn (i.LoadN to n) d' else puts.insn (i.LoadK to (puts.short (puts.constant_place (constant.Num n) d')))
+        (puts.with_constant (constant.Num n) d'))
     which true = put _ d d' p
     which false = used _ d (puts.with_constant (constant.Num n) d') (constant_in (constant.Num n) d d' p)
 
@@ -304,8 +176,10 @@ compare_good z x y hx hy so to l d d' p =
     let first = nodes.operand_run x to d' in
     put _ d (nodes.operand_run y (to + 1) first) (operand_run_good y hy (to + 1) d first (operand_run_good x hx to d d' p))
 
-pub comparison_good : (z : BinOp) (x y : ExprCode) → Good x → Good y → (id : ℕ) → Good (nodes.decided id (conditions.compare_run z x y id) (conditions.compare_jump z x y))
-comparison_good z x y hx hy id = decided_good id _ _ (λ to d d' p. put _ d _ (put _ d _ (put _ d _ (compare_good z x y hx hy true to (label id 0) d d' p)))) (compare_good z x y hx hy)
+pub comparison_good : (z : BinOp) (x y : ExprCode) → Good x → Good y → (id : ℕ) → Good (nodes.decided id (conditions.compare_run z x y id)
+    (conditions.compare_jump z x y))
+comparison_good z x y hx hy id = decided_good id _ _ (λ to d d' p. put _ d _ (put _ d _ (put _ d _ (compare_good z x y hx hy true to
+    (label id 0) d d' p)))) (compare_good z x y hx hy)
 
 pub and_good : (x y : ExprCode) → Good x → Good y → (id : ℕ) → Good (conditions.binary_code op.And x y id)
 and_good x y hx hy id = decided_good id _ _ (λ to d d' p. put _ d _ (hy.run to 2 d _ (put _ d _ (hx.run to 2 d d' p)))) jump
@@ -353,7 +227,11 @@ choices_good (a ∷ l) h id to d d' p =
     choices_good l h.1 id to d _ (put _ d _ (put _ d _ (h.0.1.run to 2 d _ (h.0.0.jump false to (label a.cond.id 1) d d' p))))
 
 pub named_good : (b : Bindings) (x : Bound) (name : StrId) (id : ℕ) → Good (code.named b x name id)
-named_good b x name id = record { run = λ to results. name_good b x name to; jump = jump_on_good (names.own_of b x) (λ to results. names.name_run b x name to) (name_good b x name) }
+named_good b x name id = record {
+  run = λ to results. name_good b x name to;
+  jump = jump_on_good (names.own_of b x)
+      (λ to results. names.name_run b x name to) (name_good b x name);
+}
 
 -- ---- blocks
 pub stats_good : (ss : List StatCode) → AllGoodStats ss → (free : ℕ) (l : Loop) → Go (code.stats_run ss free l)
@@ -377,7 +255,8 @@ module _ (b : Bindings) where
       let m = mark_at free d' in
       let at = puts.place (label id 0) d' in
       let tested = c.jump false free (label id 1) at in
-      put _ d _ (put _ d _ (ended_good b m d (code.pass_run m ss free id tested) (pass_good m ss h free id d tested (hc.jump false free (label id 1) d at (put _ d d' p)))))
+      put _ d _ (put _ d _ (ended_good b m d (code.pass_run m ss free id tested) (pass_good m ss h free id d tested (hc.jump false free (label id 1) d at
+      (put _ d d' p)))))
 
   pub repeat_good : (ss : List StatCode) → AllGoodStats ss → (c : ExprCode) → Good c → (id free : ℕ) → Go (code.repeat_run b ss c id free)
   repeat_good ss h c hc id free d d' p =
@@ -408,9 +287,11 @@ module _ (b : Bindings) where
   step_good None h free d d' p = put _ d d' p
   step_good (Some e) h free d d' p = copied_good e h (free + 1) (free + 3) d d' p
 
-  pub num_for_good : (x y : ExprCode) (o : Option ExprCode) (ss : List StatCode) → Good x → Good y → AllMaybe o → AllGoodStats ss → (id free : ℕ) → Go (code.num_for_run b x y o ss id free)
+  pub num_for_good : (x y : ExprCode) (o : Option ExprCode) (ss : List StatCode) → Good x → Good y → AllMaybe o → AllGoodStats ss → (id free : ℕ)
+      → Go (code.num_for_run b x y o ss id free)
   num_for_good x y o ss hx hy ho h id free d d' p =
-      put _ d _ (put _ d _ (turns_good ss h id free d _ (put _ d _ (put _ d _ (step_good o ho free d _ (copied_good y hy free (free + 3) d _ (hx.run (free + 2) 2 d d' p)))))))
+      put _ d _ (put _ d _ (turns_good ss h id free d _ (put _ d _ (put _ d _ (step_good o ho free d _ (copied_good y hy free (free + 3) d _ (hx.run
+      (free + 2) 2 d d' p)))))))
 
   pub skip_good : (more : Bool) (id : ℕ) → Go (code.skip_rest more id)
   skip_good true id d d' p = put _ d d' p
@@ -419,7 +300,8 @@ module _ (b : Bindings) where
   pub arms_good : (other : Bool) (l : List ArmCode) → AllGoodArms l → (id free : ℕ) (around : Loop) → Go (code.arms_run b other l id free around)
   arms_good other [] h id free around d d' p = p
   arms_good other (a ∷ l) h id free around d d' p =
-      arms_good other l h.1 id free around d _ (put _ d _ (skip_good (code.has_more other (length l)) id d _ (block_good a.body h.0.1 free around d _ (h.0.0.jump false free (label a.cond.id 1) d d' p))))
+      arms_good other l h.1 id free around d _ (put _ d _ (skip_good (code.has_more other (length l)) id d _ (block_good a.body h.0.1 free around d _
+      (h.0.0.jump false free (label a.cond.id 1) d d' p))))
 
   -- ---- compound assignments
   pub joined_good : (y : ExprCode) → Good y → (to left : ℕ) → Go (code.joined y to left)
@@ -457,7 +339,8 @@ module _ (b : Bindings) where
       let inside : Emitter = names.declare_all (names.first_at b id) 0 params (code.prepared vararg params begun) in
       let done : Emitter = puts.insn (i.Return 0 1) (code.stats_run body params code.no_loop inside) in
       let grown : Thin 0 done =
-      put _ 0 _ (stats_good body h params code.no_loop 0 inside (all_declared (names.first_at b id) 0 params 0 _ (prepared_good vararg params 0 begun (blank_thin id d d' p)))) in
+      put _ 0 _ (stats_good body h params code.no_loop 0 inside (all_declared (names.first_at b id) 0 params 0 _ (prepared_good vararg params 0 begun
+      (blank_thin id d d' p)))) in
       let outer : Emitter = puts.with_draft d'.draft done in
       let closure : Emitter = puts.insn (i.NewClosure to (puts.short (length d'.draft.children))) outer in
       let child : Emitter = puts.with_child (length done.protos) closure in
@@ -465,4 +348,3 @@ module _ (b : Bindings) where
       let last : Emitter = names.captures b (names.upvalues_at b done.draft.func) child in
       let taken : Thin d last = captures_good b (names.upvalues_at b done.draft.func) d child with_it in
       prototype_thin (puts.done params vararg done.draft) d last taken (done_thin params vararg done grown)
-
