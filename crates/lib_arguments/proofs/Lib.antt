@@ -1,4 +1,5 @@
 pub mod ArenaKept
+pub mod AtOnce
 pub mod Found
 pub mod Looks
 pub mod NamesKept

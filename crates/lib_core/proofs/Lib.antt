@@ -1,3 +1,4 @@
+pub mod AssertAsks
 pub mod Builtins
 pub mod GoingOn
 pub mod MetaRows

@@ -7,7 +7,8 @@ ghost use Rattle.value_model.specs.Parts.{meant};
 ghost use Rattle.luau_tables.specs.Answers.{Answered, raised_by};
 ghost use Rattle.luau_tables.specs.Worlds.{IsWorld, Keeps, MayUseIn, store_in};
 ghost use Rattle.lib_arguments.specs.Rows.{Runs};
-ghost use Rattle.lib_core.specs.Builtins.{IsCore, IsReader};
+ghost use Rattle.lib_arguments.specs.AtOnce.{AtOnce};
+ghost use Rattle.lib_core.specs.Builtins.{IsAsker, IsCore, IsReader};
 
 use crate::kinds::{kind_name, tonumber};
 use crate::metatable::{getmetatable, setmetatable};
@@ -26,7 +27,7 @@ use value_model::{Builtin, Value};
 /// `pairs`, `ipairs` and its iterator, `rawget`, `rawset`, `rawequal`, `rawlen`, `getmetatable` or `setmetatable`.
 ///
 /// The values that it gives are appended to `results`. In every other case none are, and all in the world stays. Where memory is
-/// wanted, the script can still use the world, though it may have gained a text.
+/// wanted, the script can still use the world, though it may have gained a text. Only `print` and `tostring` ask for calls.
 pub fn call(
     alloc: Global,
     builtin: Builtin,
@@ -38,6 +39,7 @@ pub fn call(
     requires world { IsWorld world.old }
     requires args { AllByRecursion (MayUseIn world.old) args.now }
     ensures answered { IfOk result (λ a. Answered world.old world.new results.old.items results.new.items a (raised_by builtin (map (meant world.old.names) args.now)) (lib builtin (map (meant world.old.names) args.now) (store_in world.old))) }
+    ensures at_once { (IsAsker builtin → ⊥) → IfOk result AtOnce }
     ensures err { OnErr result (results.new.items ≡ results.old.items) }
     ensures keeps { Keeps world.old world.new }
 {

@@ -6,6 +6,7 @@ ghost use Rattle.value_model.specs.Library.{lib};
 ghost use Rattle.value_model.specs.Parts.{meant};
 ghost use Rattle.luau_tables.specs.Answers.{Answered, raised_by};
 ghost use Rattle.luau_tables.specs.Worlds.{IsWorld, Keeps, MayUseIn, store_in};
+ghost use Rattle.lib_arguments.specs.AtOnce.{AtOnce};
 ghost use Rattle.lib_arguments.specs.Rows.{Runs};
 ghost use Rattle.lib_math_table.specs.Builtins.{IsMath, IsTable};
 
@@ -27,7 +28,7 @@ use value_model::{Builtin, Value};
 /// Calls a function of `math` or of `table`.
 ///
 /// The values that it gives are appended to `results`. After a run error or a stop none are, and all in the world stays. Where
-/// memory is wanted, an edit may be half done.
+/// memory is wanted, an edit may be half done. None asks for a call.
 pub fn call(
     builtin: Builtin,
     args: &[Value],
@@ -38,6 +39,7 @@ pub fn call(
     requires world { IsWorld world.old }
     requires args { AllByRecursion (MayUseIn world.old) args.now }
     ensures answered { IfOk result (λ a. Answered world.old world.new results.old.items results.new.items a (raised_by builtin (map (meant world.old.names) args.now)) (lib builtin (map (meant world.old.names) args.now) (store_in world.old))) }
+    ensures at_once { IfOk result AtOnce }
     ensures err { OnErr result (results.new.items ≡ results.old.items) }
     ensures keeps { Keeps world.old world.new }
 {

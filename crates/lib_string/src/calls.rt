@@ -1,6 +1,7 @@
 //! Calls by builtin.
 
 ghost use Rattle.std.specs.Prelude.{◌≡◌, ◌<◌, length, map, IfOk, OnErr};
+ghost use Rattle.lib_arguments.specs.AtOnce.{AtOnce};
 ghost use Rattle.lib_arguments.specs.Rows.{Runs};
 ghost use Rattle.lib_string.specs.Answering.{closed};
 ghost use Rattle.lib_string.specs.Builtins.{IsOfString};
@@ -23,7 +24,7 @@ use resource::OutOfMemory;
 use std::alloc::Global;
 use value_model::{Builtin, Continue, Value};
 
-/// Calls a string function. What it gives is appended to `results`.
+/// Calls a string function. What it gives is appended to `results`. Only `format` asks for calls.
 ///
 /// After want of memory no values have come, and nothing but texts and tables of the script may have come to the world.
 pub fn call(
@@ -37,6 +38,7 @@ pub fn call(
     requires world { IsWorld world.old }
     requires args { MayUseAll world.old args.now }
     ensures answered { IfOk result (λ answer. Answered world.old world.new results.old.items results.new.items answer (raised_by builtin (map (meant world.old.names) args.now)) (library.lib builtin (map (meant world.old.names) args.now) (store_in world.old))) }
+    ensures at_once { (builtin ≡ StringFormat → ⊥) → IfOk result AtOnce }
     ensures err { OnErr result (results.new.items ≡ results.old.items) }
     ensures keeps { Keeps world.old world.new }
 {

@@ -5,8 +5,12 @@ use Rattle.luau_tables.specs.Worlds.{store_in}
 use Rattle.luau_tables.specs.declared.answer.LibAnswer.{LibAnswer}
 use Rattle.value_model.specs.Library.{lib}
 use Rattle.value_model.specs.Parts.{meant}
+use Rattle.lib_arguments.proofs.AtOnce.{at_once, by_row}
 use Rattle.lib_arguments.proofs.RowsRun.{answered_by, unanswered_by}
+use Rattle.lib_arguments.specs.AtOnce.{AtOnce}
 use Rattle.lib_arguments.specs.Rows.{Runs}
+use Rattle.lib_core.specs.Builtins.{IsAsker}
+use Rattle.lib_core.proofs.AssertAsks.{assert_asks}
 use Rattle.lib_core.proofs.Builtins.{reads}
 use Rattle.lib_core.proofs.calls.call.Goals as goal
 
@@ -112,3 +116,38 @@ pub returns-in_default-clause-err : goal.returns-in_default-clause-err
 returns-in_default-clause-err c =
     let w = c.args.world.now in
     unanswered_by w w _ _ c.read.result _ _ c.answer-in_default.ensures c.read.ensures
+
+-- ---- which ask for no call
+
+pub returns-in-Print-clause-at_once : goal.returns-in-Print-clause-at_once
+returns-in-Print-clause-at_once c = λ n. absurd (n (subst IsAsker (sym c.in-Print.is) tt))
+
+pub returns-in-Tostring-clause-at_once : goal.returns-in-Tostring-clause-at_once
+returns-in-Tostring-clause-at_once c = λ n. absurd (n (subst IsAsker (sym c.in-Tostring.is) tt))
+
+pub returns-in-Assert-clause-at_once : goal.returns-in-Assert-clause-at_once
+returns-in-Assert-clause-at_once c = λ n.
+    let w = c.args.world.now in
+    IfOk-weaker c.assert.result _ AtOnce
+    (λ a h. by_row w.names _ a h.given (store_in w) _ h.meant (assert_asks (map (meant w.names) c.args.args.now) (store_in w))) c.assert.ensures.answered
+
+pub returns-in-Error-clause-at_once : goal.returns-in-Error-clause-at_once
+returns-in-Error-clause-at_once c = λ n.
+    let w = c.args.world.now in
+    let h = c.error.ensures.answered in
+    by_row w.names _ c.error.result h.given (store_in w) _ h.meant tt
+
+pub returns-in-Rawset-clause-at_once : goal.returns-in-Rawset-clause-at_once
+returns-in-Rawset-clause-at_once c = λ n. at_once _ c.rawset.result c.answer.ensures
+
+pub returns-in-Setmetatable-clause-at_once : goal.returns-in-Setmetatable-clause-at_once
+returns-in-Setmetatable-clause-at_once c = λ n. at_once _ c.setmetatable.result c.answer-in-Setmetatable.ensures
+
+pub returns-in-Type-clause-at_once : goal.returns-in-Type-clause-at_once
+returns-in-Type-clause-at_once c = λ n. at_once _ c.kind_name.result c.answer-in-Type.ensures
+
+pub returns-in-Typeof-clause-at_once : goal.returns-in-Typeof-clause-at_once
+returns-in-Typeof-clause-at_once c = λ n. at_once _ c.kind_name-in-Typeof.result c.answer-in-Typeof.ensures
+
+pub returns-in_default-clause-at_once : goal.returns-in_default-clause-at_once
+returns-in_default-clause-at_once c = λ n. at_once _ c.read.result c.answer-in_default.ensures

@@ -3,6 +3,7 @@ use Rattle.std.specs.Prelude.{IfOk}
 use Rattle.luau_tables.specs.Answers.{Answered}
 use Rattle.luau_tables.specs.Worlds.{store_in}
 use Rattle.luau_tables.specs.declared.answer.LibAnswer.{LibAnswer}
+use Rattle.lib_arguments.proofs.AtOnce.{at_once}
 use Rattle.lib_arguments.proofs.RowsRun.{answered_by}
 use Rattle.value_model.specs.Library.{lib}
 use Rattle.value_model.specs.Parts.{meant}
@@ -30,3 +31,9 @@ returns-clause-answered c =
     let row = lib c.args.builtin vs (store_in a) in
     subst (λ o. IfOk c.answer-2.result (λ (x : LibAnswer). Answered a d rs rs' x o row)) (raised_elsewise vs c.args.builtin c.requires.builtin)
     (answered_by Elsewise a d rs rs' c.table.result row c.answer-2.result c.answer-2.ensures c.table.ensures.runs)
+
+pub returns-then-is_math-clause-at_once : goal.returns-then-is_math-clause-at_once
+returns-then-is_math-clause-at_once c = at_once c.answer.result c.math.result c.answer.ensures
+
+pub returns-clause-at_once : goal.returns-clause-at_once
+returns-clause-at_once c = at_once c.answer-2.result c.table.result c.answer-2.ensures

@@ -3,6 +3,7 @@ use Rattle.std.specs.Prelude.{IfOk, OnErr}
 use Rattle.luau_tables.specs.Answers.{raised_by, Answered}
 use Rattle.luau_tables.specs.Worlds.{store_in}
 use Rattle.luau_tables.specs.declared.answer.LibAnswer.{LibAnswer}
+use Rattle.lib_arguments.proofs.AtOnce.{at_once}
 use Rattle.lib_arguments.proofs.RowsRun.{runs_answered, runs_unanswered}
 use Rattle.value_model.specs.FormatRows.{format_row}
 use Rattle.value_model.specs.Library as library
@@ -27,6 +28,9 @@ returns-in-StringFormat-clause-answered c =
 pub returns-in-StringFormat-clause-keeps : goal.returns-in-StringFormat-clause-keeps
 returns-in-StringFormat-clause-keeps c = adds_keeps c.args.world.now c.format.new.world c.format.ensures.adds c.requires.world
 
+pub returns-in-StringFormat-clause-at_once : goal.returns-in-StringFormat-clause-at_once
+returns-in-StringFormat-clause-at_once c = λ n. absurd (n c.in-StringFormat.is)
+
 pub returns-in_default : goal.returns-in_default
 returns-in_default c =
     let a = c.args.world.now in
@@ -38,6 +42,7 @@ returns-in_default c =
     record {
       answered = subst (λ o. IfOk c.answer.result (λ (x : LibAnswer). Answered a d rs rs' x o row)) (raised_elsewise vs c.args.builtin c.requires.builtin)
           (subst (λ r. IfOk r (λ (x : LibAnswer). Answered a d rs rs' x Elsewise row)) (sym c.answer.ensures) (runs_answered Elsewise a d rs rs' c.run.result row c.run.ensures.runs));
+      at_once = λ n. at_once c.answer.result c.run.result c.answer.ensures;
       err = subst (λ r. OnErr r (rs' ≡ rs)) (sym c.answer.ensures) (runs_unanswered a d rs rs' c.run.result row c.run.ensures.runs);
       keeps = c.run.ensures.keeps;
     }
