@@ -6,10 +6,11 @@ use Rattle.value_model.specs.declared.value.Value.TheVariants.{Nil}
 use Rattle.call_frames.specs.declared.frame.Frame.{Frame}
 use Rattle.call_frames.specs.declared.frame.OpenCell.{OpenCell}
 use Rattle.call_frames.specs.Stacks.{StackView, Layout, Rises, AreBelow, AreApart, IsLive, here, there, AreLive, Once}
-use Rattle.call_frames.specs.Cells.{innermost, end_in, end_of, entered_frame, place_in, place_of, HasPlace}
+use Rattle.call_frames.specs.Cells.{innermost, end_in, end_of, entered_frame, library_frame, place_in, place_of, HasPlace}
 use Rattle.call_frames.proofs.Closing.{split_last, last_below, read_last, below_push, apart_push}
 use Rattle.call_frames.proofs.Live.{are_live_push}
 use Rattle.value_model.specs.declared.ids.ClosureId.{ClosureId}
+use Rattle.call_frames.specs.declared.frame.ReturnKind.{ReturnKind}
 use Rattle.call_frames.proofs.Innermost.{all_below}
 
 nothing_last : {A : Type 0} (y : A) (xs : List A) → y ∷ xs ≡ [] → ⊥
@@ -118,3 +119,20 @@ called_lies s c n given extra regs fs layout le few is frames =
   where
     back : (e k : ℕ) → e ≡ e + k - k
     back e k = omega arith
+
+-- ---- a library function waits
+
+pub library_lies : (s : StackView) (kind : ReturnKind) (fs : List Frame) → Layout s → end_of s ≤ length s.registers → fs ≡ s.frames ++ library_frame (end_of s) kind ∷ [] → Lying (record s { frames = fs })
+library_lies s kind fs layout le e =
+    let f : Frame = library_frame (end_of s) kind in
+    let low : AreBelow (f.base - f.extra) s.frames = subst (λ k. AreBelow k s.frames) (none (end_of s)) (below_end s layout) in (
+      layout.rises,
+      layout.top,
+      subst (AreBelow (length s.registers)) (sym e) (below_push (length s.registers) s.frames f layout.below (omega (arith, le))),
+      subst AreApart (sym e) (apart_push s.frames f layout.apart low),
+      subst (λ fs. AreLive fs s.cells) (sym e) (are_live_push s.frames f s.cells layout.live),
+      layout.once,
+    )
+  where
+    none : (e : ℕ) → e ≡ e - 0
+    none e = omega arith

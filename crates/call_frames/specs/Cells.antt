@@ -188,6 +188,14 @@ called c n given extra s =
       frames = s.frames ++ entered_frame c (end_of s + length extra) n (length extra) ∷ [];
     }
 
+-- the frame of a library function that waits for the values of a call
+abbrev pub library_frame : (base : ℕ) → ReturnKind → Frame
+library_frame base kind = record { closure = None; base = base; registers = 0; extra = 0; place = 0; kind = kind }
+
+-- it waits behind all frames
+unfoldable pub library_called : ReturnKind → StackView → StackView
+library_called kind s = record s { frames = s.frames ++ library_frame (end_of s) kind ∷ [] }
+
 -- values stand over those from a place on
 abbrev pub overlaid : List Value → (at : ℕ) → List Value → List Value
 overlaid regs at vs = take at regs ++ vs ++ drop (at + length vs) regs

@@ -306,6 +306,27 @@ impl Stack {
         }
     }
 
+    /// A library function waits behind all frames, for the values of a call. It has no registers.
+    pub fn push_library(&mut self, kind: ReturnKind) -> Result<(), OutOfMemory>
+        ensures ok { OnOk result (self.new ≡ opens.library_called kind self.old) }
+        ensures err { OnErr result (self.new ≡ self.old) }
+    {
+        let base = self.end();
+        self.frames.reserve(1)?;
+        let frame = Frame {
+            closure: None,
+            base,
+            registers: 0,
+            extra: 0,
+            place: 0,
+            kind,
+        };
+        match self.frames.push(frame) {
+            Ok(()) => Ok(()),
+            Err(_) => unreachable!(),
+        }
+    }
+
     /// The open cell of a register of the innermost frame: the one that there is, or else a new one of this owner.
     pub fn capture(
         &mut self,

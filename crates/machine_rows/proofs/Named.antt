@@ -1,6 +1,7 @@
 -- Texts come behind those that were there: a script's running state means what it meant.
-use Rattle.std.proofs.Common.{◌≡◌, ℕ, zero, suc, ◌+◌, ◌-◌, ◌<◌, max, cond, nat_lt, List, [], ◌∷◌, ◌++◌, map, replicate, reverse, length, take, drop, get_or, set, Option, Some, None, IfSome, slice_get, refl, sym, ◌∙◌, ap, subst}
+use Rattle.std.proofs.Common.{◌≡◌, ℕ, zero, suc, ◌+◌, ◌-◌, ◌<◌, ◌≤◌, max, cond, nat_lt, List, [], ◌∷◌, ◌++◌, map, replicate, reverse, length, take, drop, get_or, set, Option, Some, None, IfSome, slice_get, refl, sym, ◌∙◌, ap, subst, arith}
 use Rattle.std.specs.List.{AllByRecursion}
+use Rattle.std.proofs.lemmas.List.{length-append}
 use Rattle.std.specs.Option.{option_map, option_map_or, option_and_then}
 use mathlib.Core.Path.{fun_ext}
 use Rattle.byte_text.specs.declared.fixed.StrId.{StrId}
@@ -35,6 +36,7 @@ use Rattle.machine_world.specs.Functions.{register, window, text_of, purpose_of,
 use Rattle.machine_world.specs.Parts.{import_in, imports_in, part, state_with, marked_in}
 use Rattle.machine_world.specs.Sound.{IsMachine}
 use Rattle.machine_world.proofs.Frames.{with_same, reverse_more}
+use Rattle.machine_world.proofs.FrameKinds.{kinds_on}
 use Rattle.machine_rows.specs.Texts.{HasTextsOfKind, KnowsTexts}
 
 -- ---- lists
@@ -238,6 +240,10 @@ part_named w names code s x replies extends interned is known =
 
 -- ---- what goes on to hold
 
+longer : (texts after : List m.Bytes) → Extends texts after → length texts ≤ length after
+longer texts after extends =
+    omega (arith, ap length extends.appended, length-append texts extends.more)
+
 pub machine_named : (w : LibWorld) (names : List m.Bytes) (s : StackView) → Extends w.names names → AreTexts names → IsMachine w s →
     IsMachine (record w { names = names }) s
 machine_named w names s extends interned is =
@@ -248,6 +254,7 @@ machine_named w names s extends interned is =
       own = is.own;
       values = all_on (MayUseIn w) (MayUseIn (record w { names = names })) (may_use_on w (record w { names = names }) keeps) s.registers is.values;
       functions = is.functions;
+      kinds = kinds_on w (record w { names = names }) (may_use_on w (record w { names = names }) keeps) (longer w.names names extends) s.frames is.kinds;
       shared = is.shared;
       main = is.main;
       marks = is.marks;

@@ -28,6 +28,7 @@ use Rattle.machine_code.specs.declared.code.Code.{Code}
 use Rattle.machine_world.specs.Functions.{text_of}
 use Rattle.machine_world.specs.Rows.{Makes}
 use Rattle.machine_world.specs.Sound.{Runs}
+use Rattle.machine_world.proofs.Calling.{all_take}
 use Rattle.machine_world.proofs.Here.{Here, here, row_here}
 use Rattle.machine_rows.specs.Leading.{looks, goes, goes_on, ends_on, ComesTo, Does}
 use Rattle.machine_rows.specs.declared.next.Next.{Next}
@@ -119,6 +120,18 @@ name_use w path i d low known = (tt, at_place path i low known)
     at_place [] i low h = absurd (omega (arith, low))
     at_place (x ∷ xs) zero low h = h.0
     at_place (x ∷ xs) (suc i) low h = at_place xs i (omega (arith, low)) h.1
+
+-- so do those behind it
+pub later_known : (w : LibWorld) (path names : List StrId) (i : ℕ) → names ≡ take (length path - (i + 1)) (drop (i + 1) path) →
+    AllByRecursion (λ (x : StrId). x.0 < length w.names) path → AllByRecursion (λ (x : StrId). x.0 < length w.names) names
+later_known w path names i e h =
+    let Known : StrId → Type 0 = λ x. x.0 < length w.names in
+    subst (AllByRecursion Known) (sym e) (all_take Known (length path - (i + 1)) (drop (i + 1) path) (all_drop Known (i + 1) path h))
+  where
+    all_drop : {A : Type 0} (P : A → Type 0) (n : ℕ) (xs : List A) → AllByRecursion P xs → AllByRecursion P (drop n xs)
+    all_drop P zero xs h = h
+    all_drop P (suc n) [] h = tt
+    all_drop P (suc n) (x ∷ xs) h = all_drop P n xs h.1
 
 pub follows_on : (chunk : ChunkOf) (w w' : LibWorld) (code : Code) (s s' : StackView) (base : m.Value) (path : List StrId) (i to next : ℕ) (d : StrId) (o : Outcome) (v : Value) (n k : ℕ) (x : Next) → Runs s → i < length path → o ≡ Done v → chosen (store_in w) n (meant_outcome w.names o) ≡ choose (choice.Index base (meant w.names (value.Str (get_or path i d)))) (store_in w) → Does chunk (follow_names (meant w.names v) (map (text_of w.names) (drop (i + 1) path)) to next) w code s k x w' s' → Does chunk (follow_names base (map (text_of w.names) (drop i path)) to next) w code s (n + k) x w' s'
 unfolding meant

@@ -1,5 +1,5 @@
 -- A table is written, and nothing else of the state changes.
-use Rattle.std.proofs.Common.{◌≡◌, ℕ, ◌-◌, Bool, cond, List, [], ◌∷◌, map, replicate, reverse, length, Option, Some, None, IfSome, sym, ◌∙◌, ap, subst}
+use Rattle.std.proofs.Common.{◌≡◌, ℕ, ◌-◌, Bool, cond, List, [], ◌∷◌, map, replicate, reverse, length, Option, Some, None, IfSome, sym, ◌∙◌, ap, subst, arith}
 use Rattle.std.specs.List.{AllByRecursion}
 use Rattle.value_model.specs.Choices as choice
 use Rattle.value_model.specs.Metamethods.{choose}
@@ -28,6 +28,7 @@ use Rattle.machine_world.specs.Parts.{environment_id, imports_in, part}
 use Rattle.machine_world.specs.Rows.{row_in}
 use Rattle.machine_world.specs.Sound.{AreOf, IsFunctionOf, Runs, IsMachine}
 use Rattle.machine_world.proofs.Here.{Here, here, row_here}
+use Rattle.machine_world.proofs.FrameKinds.{kinds_on}
 use Rattle.machine_rows.specs.Leading.{looks, ComesTo, Does}
 use Rattle.machine_rows.specs.declared.next.Next.{Next}
 use Rattle.machine_rows.proofs.Steps.{store_here}
@@ -84,6 +85,7 @@ machine_stored w b s own h is =
       own = is.own;
       values = all_on (MayUseIn w) (MayUseIn (record w { arena = b })) (λ v. usable_on w.names w.arena b w.owner v h.grows) s.registers is.values;
       functions = all_on (IsFunctionOf w.owner w.arena) (IsFunctionOf w.owner b) (λ f. some_on (λ (c : ClosureId). (wide c.owner ≡ w.owner) × HasClosure w.arena c) (λ (c : ClosureId). (wide c.owner ≡ w.owner) × HasClosure b c) (λ c k. (k.0, closure_stays w.arena b c h.grows k.1)) f.closure) s.frames is.functions;
+      kinds = kinds_on w (record w { arena = b }) (λ v. usable_on w.names w.arena b w.owner v h.grows) (omega arith) s.frames is.kinds;
       shared = ap (λ o. o.cells) others ∙ is.shared;
       main = h.running ∙ is.main;
       marks = λ t e. is.marks t (sym (h.marks t) ∙ e);

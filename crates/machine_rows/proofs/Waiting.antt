@@ -16,7 +16,7 @@ use Rattle.machine_meaning.specs.States.{Focus}
 use Rattle.machine_code.specs.declared.code.Code.{Code}
 use Rattle.machine_world.specs.Functions.{cells_of, purpose_of}
 use Rattle.machine_world.specs.Parts.{world_with, part, changed_in, changed}
-use Rattle.machine_world.specs.Sound.{IsMachine, IsLuau, Runs}
+use Rattle.machine_world.specs.Sound.{MayWaitInCode, MayWaitIn, IsMachine, IsLuau, Runs}
 use Rattle.machine_world.proofs.Frames.{inner, of_frame, functions_split}
 use Rattle.machine_world.proofs.Changing.{framed, part_framed, keeps_framed}
 use Rattle.machine_rows.specs.Leading.{expects}
@@ -32,10 +32,11 @@ part_expects w code s kind x replies runs =
     ∙ part_framed w code s f i.closure f.place s.top kind x replies i.is i.of
     ∙ sym (ap (λ fs. changed_in (expects (purpose_of w.names kind)) x fs (world_with w code s.frames replies (cells_of w.names w.owner s w.arena))) (functions_split w.names cs s f i.closure i.is i.of))
 
-pub keeps_expects : (w : LibWorld) (s : StackView) (kind : ReturnKind) → Runs s → IsMachine w s → IsMachine w (opens.waiting kind s)
-keeps_expects w s kind runs is =
+pub keeps_expects : (w : LibWorld) (s : StackView) (kind : ReturnKind) → Runs s → MayWaitInCode w kind → IsMachine w s →
+    IsMachine w (opens.waiting kind s)
+keeps_expects w s kind runs may is =
     let i = inner s runs in
-    subst (IsMachine w) (with_innermost_is (λ f. record f { kind = kind }) s i.frame i.is) (keeps_framed w s i.frame i.frame.place s.top kind i.is is)
+    subst (IsMachine w) (with_innermost_is (λ f. record f { kind = kind }) s i.frame i.is) (keeps_framed w s i.frame i.frame.place s.top kind i.is (subst (λ q. MayWaitIn w q kind) (sym i.of) may) is)
 
 pub runs_expects : (s : StackView) (kind : ReturnKind) → Runs s → Runs (opens.waiting kind s)
 runs_expects s kind runs =

@@ -10,7 +10,7 @@ ghost use Rattle.machine_meaning.specs.States.{Into, Compares, Stores};
 ghost use Rattle.machine_world.specs.Functions.{purpose_of};
 ghost use Rattle.machine_world.specs.Parts.{Becomes, changed};
 ghost use Rattle.machine_world.specs.Rows.{place_here};
-ghost use Rattle.machine_world.specs.Sound.{IsMachine, HasRegister, Runs, GoesOn, Ahead};
+ghost use Rattle.machine_world.specs.Sound.{IsMachine, MayWaitInCode, HasRegister, Runs, GoesOn, Ahead};
 ghost use Rattle.machine_rows.specs.Leading.{looks, Does, IsNext, expects};
 
 use crate::next::Next;
@@ -24,6 +24,7 @@ use value_model::truthy;
 pub fn settle(machine: &mut Machine, world: &LibWorld, outcome: Outcome, kind: ReturnKind) -> Next
     requires sound { IsMachine world.now machine.old.stack }
     requires runs { Runs machine.old.stack }
+    requires kind { MayWaitInCode world.now kind }
     requires usable { OfOutcome world.now.names (MayUseIn world.now) outcome }
     ensures makes { (chunk : ChunkOf) (n : ℕ) → Does chunk (comes (meant_outcome world.now.names outcome) (looks n) (purpose_of world.now.names kind)) world.now machine.old.code machine.old.stack n result world.now machine.new.stack }
     ensures sound { IsMachine world.now machine.new.stack }
@@ -59,6 +60,7 @@ pub fn settle(machine: &mut Machine, world: &LibWorld, outcome: Outcome, kind: R
 fn expect(machine: &mut Machine, world: &LibWorld, kind: ReturnKind)
     requires sound { IsMachine world.now machine.old.stack }
     requires runs { Runs machine.old.stack }
+    requires kind { MayWaitInCode world.now kind }
     ensures expects { Becomes (changed (expects (purpose_of world.now.names kind))) world.now machine.old.code machine.old.stack world.now machine.new.stack }
     ensures sound { IsMachine world.now machine.new.stack }
     ensures runs { Runs machine.new.stack }

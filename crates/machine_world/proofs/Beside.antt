@@ -1,5 +1,5 @@
 -- Cells are changed, and nothing else of the world.
-use Rattle.std.proofs.Common.{◌≡◌, ℕ, zero, suc, ◌-◌, cond, List, [], ◌∷◌, ◌++◌, map, replicate, reverse, length, get_or, set, Option, Some, None, IfSome, refl, sym, ◌∙◌, ap, subst}
+use Rattle.std.proofs.Common.{◌≡◌, ℕ, zero, suc, ◌-◌, cond, List, [], ◌∷◌, ◌++◌, map, replicate, reverse, length, get_or, set, Option, Some, None, IfSome, refl, sym, ◌∙◌, ap, subst, arith}
 use Rattle.std.specs.List.{AllByRecursion}
 use Rattle.std.specs.Option.{option_map}
 use Rattle.std.proofs.lemmas.List.{length-set}
@@ -40,6 +40,7 @@ use Rattle.machine_code.specs.declared.code.Code.{Code}
 use Rattle.machine_world.specs.Functions.{body_of, wait_of}
 use Rattle.machine_world.specs.Parts.{environment_id, imports_in, state_with}
 use Rattle.machine_world.specs.Sound.{cell_count, AreOf, IsFunctionOf, IsMachine}
+use Rattle.machine_world.proofs.FrameKinds.{all_on, some_on, kinds_on}
 
 -- ---- what stays
 
@@ -100,14 +101,6 @@ state_beside w b code fs x replies functions cells h =
     ∙ ap (λ ts. state_from (store_in w) p.closures ts env w code fs x replies functions cells) h.threads
     ∙ ap (λ t. state_from (store_in w) p.closures p.threads t w code fs x replies functions cells) (h.tables (environment_id w.owner))
 
-all_on : {X : Type 0} (P Q : X → Type 0) → ((x : X) → P x → Q x) → (xs : List X) → AllByRecursion P xs → AllByRecursion Q xs
-all_on P Q f [] h = tt
-all_on P Q f (x ∷ xs) h = (f x h.0, all_on P Q f xs h.1)
-
-some_on : {X : Type 0} (P Q : X → Type 0) → ((x : X) → P x → Q x) → (r : Option X) → IfSome r P → IfSome r Q
-some_on P Q f None h = h
-some_on P Q f (Some x) h = f x h
-
 pub machine_beside : (w : LibWorld) (b : ArenaView) (s : StackView) → Beside w b → AreOf w.owner (cell_count w.owner b) s.cells → IsMachine w s → IsMachine (record w { arena = b }) s
 machine_beside w b s h of is =
     record {
@@ -116,6 +109,7 @@ machine_beside w b s h of is =
       own = is.own;
       values = all_on (MayUseIn w) (MayUseIn (record w { arena = b })) (λ v. usable_on w.names w.arena b w.owner v h.grows) s.registers is.values;
       functions = all_on (IsFunctionOf w.owner w.arena) (IsFunctionOf w.owner b) (λ f. some_on (λ (c : ClosureId). (wide c.owner ≡ w.owner) × HasClosure w.arena c) (λ (c : ClosureId). (wide c.owner ≡ w.owner) × HasClosure b c) (λ c k. (k.0, closure_stays w.arena b c h.grows k.1)) f.closure) s.frames is.functions;
+      kinds = kinds_on w (record w { arena = b }) (λ v. usable_on w.names w.arena b w.owner v h.grows) (omega arith) s.frames is.kinds;
       shared = ap (λ o. o.cells) h.frozen ∙ is.shared;
       main = h.running ∙ is.main;
       marks = λ t e. is.marks t (sym (ap (λ (x : TableView). x.is_marked) (h.tables t)) ∙ e);

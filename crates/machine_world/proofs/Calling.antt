@@ -1,5 +1,5 @@
 -- Functions are left and entered.
-use Rattle.std.proofs.Common.{◌≡◌, ℕ, zero, suc, ◌+◌, ◌-◌, ◌<◌, ◌≤◌, max, Bool, true, false, cond, nat_eq, nat_lt, List, [], ◌∷◌, ◌++◌, map, reverse, replicate, length, take, drop, get_or, set, Option, Some, None, slice_get, refl, sym, ◌∙◌, ap, subst, arith, length-append, append_assoc}
+use Rattle.std.proofs.Common.{◌≡◌, ℕ, zero, suc, ◌+◌, ◌-◌, ◌<◌, ◌≤◌, max, Bool, true, false, cond, nat_eq, nat_lt, List, [], ◌∷◌, ◌++◌, map, reverse, replicate, length, take, drop, get_or, set, Option, Some, None, IsSomeAnd, slice_get, refl, sym, ◌∙◌, ap, subst, arith, length-append, append_assoc}
 use Rattle.std.specs.List.{AllByRecursion}
 use Rattle.std.specs.Option.{option_map, option_map_or}
 use Rattle.std.proofs.lemmas.Grind.{common_steps}
@@ -24,16 +24,17 @@ use Rattle.luau_tables.specs.declared.globals.LibWorld.{LibWorld}
 use Rattle.luau_tables.proofs.Sameness.{nil_is}
 use Rattle.call_frames.specs.declared.frame.Frame.{Frame}
 use Rattle.call_frames.specs.declared.frame.OpenCell.{OpenCell}
+use Rattle.call_frames.specs.declared.frame.ReturnKind.TheVariants.{Idle}
 use Rattle.call_frames.specs.Stacks.{StackView, AreBelow, Layout}
 use Rattle.call_frames.specs.Cells.{Both, cell_on, kept, closed, innermost, outer, low, popped, end_in, end_of, entered_frame, called}
-use Rattle.call_frames.proofs.Closing.{split_last, last_got, front_is, popped_is}
+use Rattle.call_frames.proofs.Closing.{split_last, last_got, front_is, popped_is, popped_frames}
 use Rattle.call_frames.proofs.Innermost.{all_below}
 use Rattle.machine_meaning.specs.States as machine
 use Rattle.machine_meaning.specs.States.{Register, Val, Open, Registers, Focus, State, Body, filled}
 use Rattle.machine_code.specs.declared.code.Code.{Code}
 use Rattle.machine_world.specs.Functions.{register, window, with_function, function_of, waiting, running, functions_of, laid, kept_cells, cells_of, wait_of, body_of, body_at}
 use Rattle.machine_world.specs.Parts.{world_with, state_with, part, waits_in, left, entered}
-use Rattle.machine_world.specs.Sound.{cell_count, AreOf, IsOwnOf, first, later, AreOwn, IsFunctionOf, IsMachine}
+use Rattle.machine_world.specs.Sound.{cell_count, AreOf, IsOwnOf, first, later, AreOwn, IsFunctionOf, MayWait, IsLuau, GoesOn, IsMachine}
 use Rattle.machine_world.proofs.Laid.{laid_kept}
 use Rattle.machine_world.proofs.Registers.{shown, register_low}
 use Rattle.machine_world.proofs.Frames.{functions_split, lies, with_same, waiting_same, below_reverse}
@@ -151,6 +152,7 @@ keeps_left w s f e is =
       own = own_stays s.frames (outer s) (low f) s.cells (λ q h own. own_front (outer s) f q h (subst (λ fs. IsOwnOf fs q) (split_last s.frames f e) own)) is.own;
       values = now.values;
       functions = all_take (IsFunctionOf w.owner b) (length s.frames - 1) s.frames now.functions;
+      kinds = all_take (MayWait (record w { arena = b })) (length s.frames - 1) s.frames now.kinds;
       shared = now.shared;
       main = now.main;
       marks = now.marks;
@@ -317,7 +319,7 @@ own_more [] gs q is = elim is [ ]
 own_more (f ∷ fs) gs q (first le lt) = first le lt
 own_more (f ∷ fs) gs q (later is) = later (own_more fs gs q is)
 
-are_own_more : (fs gs : List Frame) (os : List OpenCell) → AreOwn fs os → AreOwn (fs ++ gs) os
+pub are_own_more : (fs gs : List Frame) (os : List OpenCell) → AreOwn fs os → AreOwn (fs ++ gs) os
 are_own_more fs gs [] h = tt
 are_own_more fs gs (o ∷ os) h = (own_more fs gs o.register h.0, are_own_more fs gs os h.1)
 
@@ -336,7 +338,21 @@ keeps_called w s c n given extra there h k is =
           (all_append (MayUseIn w) (take e s.registers ++ extra) given (all_append (MayUseIn w) (take e s.registers) extra (all_take (MayUseIn w) e s.registers is.values) k) h)
           (all_replicate (MayUseIn w) (n - length given) value.Nil (tt, tt));
       functions = all_append (IsFunctionOf w.owner w.arena) s.frames (entered_frame c (e + length extra) n (length extra) ∷ []) is.functions (there, tt);
+      kinds = all_append (MayWait w) s.frames (entered_frame c (e + length extra) n (length extra) ∷ []) is.kinds (tt, tt);
       shared = is.shared;
       main = is.main;
       marks = is.marks;
     }
+
+-- ---- the functions that are left
+
+pub left_frames : (s s' : StackView) (a b : ArenaView) (f : Frame) → innermost s ≡ Some f → (s', b) ≡ popped (s, a) → s'.frames ≡ outer s
+left_frames s s' a b f e is =
+    ap (λ (p : Both). p.0.frames) is ∙ popped_frames (s, a) f e
+
+-- the function that was entered runs
+pub goes_called : (s : StackView) (c : ClosureId) (n : ℕ) (given extra : List Value) → GoesOn (called c n given extra s)
+unfolding called
+goes_called s c n given extra =
+    let f : Frame = entered_frame c (end_of s + length extra) n (length extra) in
+    subst (λ q. IsSomeAnd q (λ f. IsLuau f × (f.kind ≡ Idle))) (sym (last_got (s.frames ++ f ∷ []) s.frames f refl)) (tt, refl)

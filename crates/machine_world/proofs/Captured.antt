@@ -194,7 +194,7 @@ is_own s r f e low = subst (λ fs. IsOwnOf fs (f.base + r)) (sym (split_last s.f
 
 pub keeps_cells : (w : LibWorld) (s : StackView) (os : List OpenCell) → AreOf w.owner (cell_count w.owner w.arena) os → AreOwn s.frames os → IsMachine w s → IsMachine w (record s { cells = os })
 keeps_cells w s os of own is =
-    record { world = is.world; cells = of; own = own; values = is.values; functions = is.functions; shared = is.shared; main = is.main; marks = is.marks }
+    record { world = is.world; cells = of; own = own; values = is.values; functions = is.functions; kinds = is.kinds; shared = is.shared; main = is.main; marks = is.marks }
 
 abbrev pub ThreeSound : LibWorld → Three → Type 0
 ThreeSound w t = IsMachine (record w { arena = t.2 }) t.1 × IsCell w.owner t.2 t.0

@@ -23,7 +23,7 @@ use Rattle.machine_meaning.specs.States.{Register, Val, Registers, Focus, State}
 use Rattle.machine_code.specs.declared.code.Code.{Code}
 use Rattle.machine_world.specs.Functions.{register, window, function_of, waiting, running, functions_of, cells_of, wait_of, wait_in, purpose_of}
 use Rattle.machine_world.specs.Parts.{world_with, state_with, part, waits_in, changed_in, changed, placed, awake, waits}
-use Rattle.machine_world.specs.Sound.{IsOwnOf, first, later, AreOwn, IsFunctionOf, IsLuau, Runs, GoesOn, IsMachine}
+use Rattle.machine_world.specs.Sound.{IsOwnOf, first, later, AreOwn, IsFunctionOf, MayWaitInCode, MayWaitIn, MayWait, IsLuau, Runs, GoesOn, IsMachine}
 use Rattle.machine_world.proofs.Frames.{inner, of_frame, functions_split}
 use Rattle.machine_world.proofs.Written.{all_set}
 use Rattle.machine_world.proofs.Calling.{reverse_last}
@@ -113,14 +113,14 @@ are_own_changed : (fs : List Frame) (f g : Frame) (os : List OpenCell) →
 are_own_changed fs f g [] of h = tt
 are_own_changed fs f g (o ∷ os) of h = (own_changed fs f g o.register (of o.register) h.0, are_own_changed fs f g os of h.1)
 
-all_last : {A : Type 0} (P : A → Type 0) (xs : List A) (i : ℕ) (x : A) → slice_get xs i ≡ Some x → AllByRecursion P xs → P x
+pub all_last : {A : Type 0} (P : A → Type 0) (xs : List A) (i : ℕ) (x : A) → slice_get xs i ≡ Some x → AllByRecursion P xs → P x
 all_last P [] i x e h = absurd (cc)
 all_last P (y ∷ xs) zero x e h = let same : y ≡ x = cc in subst P same h.0
 all_last P (y ∷ xs) (suc i) x e h = all_last P xs i x e h.1
 
-pub keeps_framed : (w : LibWorld) (s : StackView) (f : Frame) (place top : ℕ) (kind : ReturnKind) → innermost s ≡ Some f → IsMachine w s →
-    IsMachine w (framed s f place kind top)
-keeps_framed w s f place top kind e is =
+pub keeps_framed : (w : LibWorld) (s : StackView) (f : Frame) (place top : ℕ) (kind : ReturnKind) → innermost s ≡ Some f →
+    MayWaitIn w f.closure kind → IsMachine w s → IsMachine w (framed s f place kind top)
+keeps_framed w s f place top kind e may is =
     let g : Frame = record f { place = place; kind = kind } in
     record {
       world = is.world;
@@ -128,6 +128,7 @@ keeps_framed w s f place top kind e is =
       own = subst (λ fs. AreOwn fs s.cells) (sym (replaced s.frames f g e)) (are_own_changed (outer s) f g s.cells (λ r le lt. (le, lt)) (subst (λ fs. AreOwn fs s.cells) (split_last s.frames f e) is.own));
       values = is.values;
       functions = all_set (IsFunctionOf w.owner w.arena) s.frames (length s.frames - 1) g is.functions (all_last (IsFunctionOf w.owner w.arena) s.frames (length s.frames - 1) f e is.functions);
+      kinds = all_set (MayWait w) s.frames (length s.frames - 1) g is.kinds may;
       shared = is.shared;
       main = is.main;
       marks = is.marks;
@@ -136,12 +137,13 @@ keeps_framed w s f place top kind e is =
 pub keeps_placed : (w : LibWorld) (s : StackView) (place : ℕ) → Runs s → IsMachine w s → IsMachine w (opens.placed place s)
 keeps_placed w s place runs is =
     let i = inner s runs in
-    subst (IsMachine w) (with_innermost_is (λ f. record f { place = place }) s i.frame i.is) (keeps_framed w s i.frame place s.top i.frame.kind i.is is)
+    subst (IsMachine w) (with_innermost_is (λ f. record f { place = place }) s i.frame i.is) (keeps_framed w s i.frame place s.top i.frame.kind i.is (all_last (MayWait w) s.frames (length s.frames - 1) i.frame i.is is.kinds) is)
 
-pub keeps_waits : (w : LibWorld) (s : StackView) (kind : ReturnKind) → Runs s → IsMachine w s → IsMachine w (record (opens.waiting kind s) { top = 0 })
-keeps_waits w s kind runs is =
+pub keeps_waits : (w : LibWorld) (s : StackView) (kind : ReturnKind) → Runs s → MayWaitInCode w kind → IsMachine w s →
+    IsMachine w (record (opens.waiting kind s) { top = 0 })
+keeps_waits w s kind runs may is =
     let i = inner s runs in
-    subst (λ (t : StackView). IsMachine w (record t { top = 0 })) (with_innermost_is (λ f. record f { kind = kind }) s i.frame i.is) (keeps_framed w s i.frame i.frame.place 0 kind i.is is)
+    subst (λ (t : StackView). IsMachine w (record t { top = 0 })) (with_innermost_is (λ f. record f { kind = kind }) s i.frame i.is) (keeps_framed w s i.frame i.frame.place 0 kind i.is (subst (λ q. MayWaitIn w q kind) (sym i.of) may) is)
 
 pub some_frame : (s : StackView) → Runs s → 0 < length s.frames
 some_frame s runs = let i = inner s runs in by s.frames i.is
@@ -177,7 +179,7 @@ part_awake w code s x replies runs =
 pub keeps_awake : (w : LibWorld) (s : StackView) → Runs s → IsMachine w s → IsMachine w (opens.waiting Idle s)
 keeps_awake w s runs is =
     let i = inner s runs in
-    subst (IsMachine w) (with_innermost_is (λ f. record f { kind = Idle }) s i.frame i.is) (keeps_framed w s i.frame i.frame.place s.top Idle i.is is)
+    subst (IsMachine w) (with_innermost_is (λ f. record f { kind = Idle }) s i.frame i.is) (keeps_framed w s i.frame i.frame.place s.top Idle i.is (subst (λ q. MayWaitIn w q Idle) (sym i.of) tt) is)
 
 pub goes_awake : (s : StackView) → Runs s → GoesOn (opens.waiting Idle s)
 goes_awake s runs =

@@ -1,6 +1,7 @@
 pub mod Laid
 pub mod Registers
 pub mod Frames
+pub mod FrameKinds
 pub mod Written
 pub mod Beside
 pub mod Upvalues
@@ -12,3 +13,4 @@ pub mod Delivering
 pub mod Going
 pub mod Listing
 pub mod Here
+pub mod Awaiting

@@ -165,7 +165,7 @@ all_get P (x ∷ xs) (suc i) d h k = all_get P xs i d h.1 k
 -- registers are changed, and the end of the list of values
 pub keeps_registers : (w : LibWorld) (s : StackView) (regs : List Value) (top : ℕ) → AllByRecursion (MayUseIn w) regs → IsMachine w s → IsMachine w (record s { registers = regs; top = top })
 keeps_registers w s regs top h is =
-    record { world = is.world; cells = is.cells; own = is.own; values = h; functions = is.functions; shared = is.shared; main = is.main; marks = is.marks }
+    record { world = is.world; cells = is.cells; own = is.own; values = h; functions = is.functions; kinds = is.kinds; shared = is.shared; main = is.main; marks = is.marks }
 
 pub keeps_write : (w : LibWorld) (s : StackView) (r : ℕ) (v : Value) → MayUseIn w v → IsMachine w s → IsMachine w (with_local s r v)
 unfolding with_local

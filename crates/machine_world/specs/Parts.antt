@@ -5,7 +5,7 @@ use Rattle.value_model.specs.Parts.{meant}
 use Rattle.value_model.specs.Values as m
 use Rattle.value_model.specs.Values.{Bytes}
 use Rattle.value_model.specs.Store.{script_environment}
-use Rattle.value_model.specs.Waits.{Waits, Runs, leave, await}
+use Rattle.value_model.specs.Waits.{Wait, Waits, Runs, leave, await}
 use Rattle.value_model.specs.declared.event.Reply.{Reply}
 use Rattle.value_model.specs.declared.ids.Owner.{Owner}
 use Rattle.value_model.specs.declared.ids.TableId.{TableId}
@@ -149,6 +149,14 @@ left s =
       functions = without_first s.functions;
       world = record s.world { waits = leave s.world.waits (store_of s.world) };
     }
+
+-- a library function waits for the values of a call
+abbrev pub awaited : Wait → State → State
+awaited k s = record s { world = record s.world { waits = await k s.world.waits (store_of s.world) } }
+
+-- and no longer
+abbrev pub over : State → State
+over s = record s { world = record s.world { waits = leave s.world.waits (store_of s.world) } }
 
 abbrev pub body_in : State → (closure : ℕ) → Body
 body_in s c = slice_index_or s.world.objects.bodies c (record { proto = 0; cells = [] })

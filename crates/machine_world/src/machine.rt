@@ -9,10 +9,11 @@ ghost use Rattle.value_model.specs.declared.event.Reply.{Reply};
 ghost use Rattle.value_arena.specs.Growing.{Grows};
 ghost use Rattle.luau_tables.specs.Worlds.{MayUseIn};
 ghost use Rattle.machine_meaning.specs.States as machine;
-ghost use Rattle.machine_world.specs.Functions.{purpose_of};
+ghost use Rattle.call_frames.specs.Cells.{outer};
+ghost use Rattle.machine_world.specs.Functions.{purpose_of, wait_by};
 ghost use Rattle.machine_world.specs.Parts as parts;
 ghost use Rattle.machine_world.specs.Rows.{place_here};
-ghost use Rattle.machine_world.specs.Sound.{IsMachine, HasRegister, HasUpvalue, HasPlaceOf, HasList, IsCell, Up, Runs, GoesOn};
+ghost use Rattle.machine_world.specs.Sound.{IsMachine, MayWaitInCode, MayWaitInLibrary, HasRegister, HasUpvalue, HasPlaceOf, HasList, IsCell, Up, Runs, GoesOn, LibraryWaits, LibraryWaitsFor, UsesStay};
 
 use call_frames::{Frame, ReturnKind, Stack};
 use luau_tables::LibWorld;
@@ -163,6 +164,7 @@ impl Machine {
     pub fn wait(&mut self, world: &LibWorld, kind: ReturnKind)
         requires sound { IsMachine world.now self.old.stack }
         requires runs { Runs self.old.stack }
+        requires kind { MayWaitInCode world.now kind }
         ensures waits { parts.Becomes (parts.changed (parts.waits (purpose_of world.now.names kind))) world.now self.old.code self.old.stack world.now self.new.stack }
         ensures top { self.new.stack.top ≡ 0 }
         ensures sound { IsMachine world.now self.new.stack }
@@ -210,11 +212,49 @@ impl Machine {
         requires runs { Runs self.old.stack }
         ensures left { parts.Becomes parts.left world.old self.old.code self.old.stack world.new self.new.stack }
         ensures sound { IsMachine world.new self.new.stack }
+        ensures top { self.new.stack.top ≡ 0 }
+        ensures frames { self.new.stack.frames ≡ outer self.old.stack }
+        ensures world { world.new ≡ record world.old { arena = world.new.arena } }
+        ensures uses { UsesStay world.old world.new }
         ensures code { self.new.code ≡ self.old.code }
     {
         self.stack.lies();
         let_go(self.stack.pop(&mut world.arena));
         self.stack.set_top(0);
+    }
+
+    /// A library function waits for the values of a call, and does this with them.
+    pub fn await_library(&mut self, world: &LibWorld, kind: ReturnKind) -> Result<(), OutOfMemory>
+        requires sound { IsMachine world.now self.old.stack }
+        requires waits { self.old.stack.top ≡ 0 }
+        requires kind { MayWaitInLibrary world.now kind }
+        ensures awaited { OnOk result (parts.Becomes (parts.awaited (wait_by world.now.names kind)) world.now self.old.code self.old.stack world.now self.new.stack) }
+        ensures sound { OnOk result (IsMachine world.now self.new.stack) }
+        ensures top { OnOk result (self.new.stack.top ≡ 0) }
+        ensures code { self.new.code ≡ self.old.code }
+    {
+        self.stack.lies();
+        self.stack.push_library(kind)
+    }
+
+    /// The library function that waits innermost waits no longer. What it would have done with the values is given.
+    pub fn leave_library(&mut self, world: &mut LibWorld) -> ReturnKind
+        requires sound { IsMachine world.old self.old.stack }
+        requires waits { LibraryWaits self.old.stack }
+        ensures over { parts.Becomes parts.over world.old self.old.code self.old.stack world.new self.new.stack }
+        ensures kind { LibraryWaitsFor self.old.stack result }
+        ensures may { MayWaitInLibrary world.new result }
+        ensures sound { IsMachine world.new self.new.stack }
+        ensures top { self.new.stack.top ≡ 0 }
+        ensures frames { self.new.stack.frames ≡ outer self.old.stack }
+        ensures world { world.new ≡ record world.old { arena = world.new.arena } }
+        ensures uses { UsesStay world.old world.new }
+        ensures code { self.new.code ≡ self.old.code }
+    {
+        self.stack.lies();
+        let frame = self.stack.pop(&mut world.arena);
+        self.stack.set_top(0);
+        frame.kind
     }
 
     /// Enters a function with so many registers, of which the first are given, and with variable arguments.
@@ -234,6 +274,7 @@ impl Machine {
         requires extra { AllByRecursion (MayUseIn world.now) extra.now }
         ensures entered { OnOk result (parts.Becomes (parts.entered closure.place registers (map (meant world.now.names) given.now) (map (meant world.now.names) extra.now)) world.now self.old.code self.old.stack world.now self.new.stack) }
         ensures sound { OnOk result (IsMachine world.now self.new.stack) }
+        ensures goes { OnOk result (GoesOn self.new.stack) }
         ensures code { self.new.code ≡ self.old.code }
     {
         self.stack.lies();

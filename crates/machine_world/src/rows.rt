@@ -182,6 +182,8 @@ impl Machine {
         requires empty { values.old.items ≡ [] }
         ensures makes { OnOk result ((chunk : ChunkOf) (words : List ℕ) (next : ℕ) → MakesTo (row chunk words (Return base count) next) world.old self.old.code self.old.stack (Hand (map (meant world.old.names) values.new.items)) world.new self.new.stack) }
         ensures sound { IsMachine world.new self.new.stack }
+        ensures usable { OnOk result (AllByRecursion (MayUseIn world.new) values.new.items) }
+        ensures top { OnOk result (self.new.stack.top ≡ 0) }
         ensures code { self.new.code ≡ self.old.code }
     {
         values.extend_from_slice(self.list(world, base, count))?;

@@ -12,7 +12,7 @@ use Rattle.machine_world.specs.Sound.{IsMachine, Runs}
 use Rattle.machine_world.proofs.Going.{runs_on}
 use Rattle.machine_rows.specs.Leading.{looks, Does}
 use Rattle.machine_rows.specs.declared.next.Next.TheVariants.{Continues}
-use Rattle.machine_rows.proofs.NamesFollowed.{name_use, follows_on, follows_out, follows_none}
+use Rattle.machine_rows.proofs.NamesFollowed.{name_use, later_known, follows_on, follows_out, follows_none}
 use Rattle.machine_rows.proofs.importing.follow.Goals as goal
 
 pub settle-done-requires : goal.settle-done-requires
@@ -23,6 +23,7 @@ settle-done-requires g c =
     record {
       sound = subst (λ (k : Machine). IsMachine w k.stack) (sym inv.same) c.requires.sound;
       runs = subst (λ (k : Machine). Runs k.stack) (sym inv.same) (runs_on c.args.machine.now.stack c.requires.goes);
+      kind = later_known w c.args.path.now c.in_ok-names-in_default.names c.loop-i.i c.in_ok-names-in_default.ensures c.requires.known;
       usable = (c.index-outcome.ensures.chooses w.names w.owner c.requires.sound.world.own (inv.usable, known)).usable;
     }
 

@@ -17,7 +17,7 @@ returns-clause-expects c = λ x replies.
 
 pub returns-clause-sound : goal.returns-clause-sound
 returns-clause-sound c =
-    subst (IsMachine c.args.world.now) (sym c.set_kind.ensures) (keeps_expects c.args.world.now c.args.machine.now.stack c.args.kind c.requires.runs c.requires.sound)
+    subst (IsMachine c.args.world.now) (sym c.set_kind.ensures) (keeps_expects c.args.world.now c.args.machine.now.stack c.args.kind c.requires.runs c.requires.kind c.requires.sound)
 
 pub returns-clause-runs : goal.returns-clause-runs
 returns-clause-runs c = subst Runs (sym c.set_kind.ensures) (runs_expects c.args.machine.now.stack c.args.kind c.requires.runs)

@@ -19,4 +19,4 @@ pub returns-clause-sound : goal.returns-clause-sound
 returns-clause-sound c =
     let w = c.args.world.now in
     let m = c.args.self.now in
-    subst (IsMachine w) (sym (c.set_top.ensures ∙ ap (λ (t : StackView). record t { top = 0 }) c.set_kind.ensures)) (keeps_waits w m.stack c.args.kind c.requires.runs c.requires.sound)
+    subst (IsMachine w) (sym (c.set_top.ensures ∙ ap (λ (t : StackView). record t { top = 0 }) c.set_kind.ensures)) (keeps_waits w m.stack c.args.kind c.requires.runs c.requires.kind c.requires.sound)
