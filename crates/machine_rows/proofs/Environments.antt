@@ -1,5 +1,5 @@
 -- The environment of the function that runs, and names.
-use Rattle.std.proofs.Common.{◌≡◌, ℕ, ◌-◌, ◌<◌, List, length, Some, sym, ◌∙◌, ap, subst}
+use Rattle.std.proofs.Common.{◌≡◌, ℕ, ◌-◌, ◌<◌, ◌≤◌, List, length, Option, Some, None, IsSomeAnd, sym, ◌∙◌, ap, subst, arith}
 use Rattle.std.proofs.lemmas.List.{get_or-map}
 use Rattle.value_model.specs.Parts.{meant, table_ref}
 use Rattle.value_model.specs.Store.{script_environment}
@@ -26,7 +26,7 @@ use Rattle.machine_code.specs.declared.code.Code.{Code}
 use Rattle.machine_world.specs.Functions.{cells_of}
 use Rattle.machine_world.specs.Parts.{world_with, part, read_in, read_of}
 use Rattle.machine_world.specs.Rows.{proto_here}
-use Rattle.machine_world.specs.Sound.{HasRegister, IsMachine}
+use Rattle.machine_world.specs.Sound.{HasRegister, IsLuau, IsMachine}
 use Rattle.machine_world.proofs.Frames.{functions_split}
 use Rattle.machine_world.proofs.Here.{Here}
 use Rattle.machine_world.proofs.Upvalues.{function_there, closure_is}
@@ -59,3 +59,11 @@ with_named chunk h k bytes row is = ap (λ q. with_name q row h.frame h.others h
 -- what is looked at is the frames alone
 pub has_same : (s s' : StackView) (r : ℕ) → s'.frames ≡ s.frames → HasRegister s r → HasRegister s' r
 has_same s s' r e h = subst (λ (fs : List Frame). HasRegister (record s' { frames = fs }) r) (sym e) h
+
+-- with a register there are those before it
+pub has_lower : (s : StackView) (r q : ℕ) → q ≤ r → HasRegister s r → HasRegister s q
+has_lower s r q le h = by (innermost s) h
+  where
+    by : (o : Option Frame) → IsSomeAnd o (λ f. IsLuau f × (r < f.registers)) → IsSomeAnd o (λ f. IsLuau f × (q < f.registers))
+    by None h = h
+    by (Some f) h = (h.0, omega (arith, le, h.1))

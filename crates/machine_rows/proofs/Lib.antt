@@ -8,4 +8,6 @@ pub mod Onward
 pub mod NamesFollowed
 pub mod Safety
 pub mod Named
+pub mod Growing
 pub mod Joined
+pub mod Waking

@@ -58,7 +58,7 @@ pub settle_waiting : (c : choice.Choice) (q p : Purpose) (f : machine.Frame) (fs
     settle c q (waits_for p f) fs u ≡ settle c q f fs u
 settle_waiting c q p f fs u = comes_waiting c.outcome (looks c.asked) q p f fs (with_store c.store u)
 
-follow_waiting : (b : m.Value) (xs : List m.Bytes) (to next : ℕ) (p : Purpose) (f : machine.Frame) (fs : List machine.Frame) (u : machine.World) →
+pub follow_waiting : (b : m.Value) (xs : List m.Bytes) (to next : ℕ) (p : Purpose) (f : machine.Frame) (fs : List machine.Frame) (u : machine.World) →
     follow_names b xs to next (waits_for p f) fs u ≡ follow_names b xs to next f fs u
 follow_waiting b [] to next p f fs u = given_waiting to next b p f fs u
 follow_waiting b (x ∷ xs) to next p f fs u = settle_waiting (choose (choice.Index b (m.Text x)) (store_of u)) (Follows xs to next) p f fs u

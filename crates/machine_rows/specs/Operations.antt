@@ -1,5 +1,5 @@
 -- The instructions of each operator, and what else an operation reads.
-use Rattle.std.specs.Prelude.{ℕ, ℤ, Bool, true, false}
+use Rattle.std.specs.Prelude.{ℕ, ℤ, Bool, true, false, List, reverse}
 use Rattle.value_model.specs.declared.operator.ArithOp.{ArithOp}
 use Rattle.value_model.specs.declared.operator.ArithOp.TheVariants as arith
 use Rattle.value_model.specs.declared.operator.CompareOp.{CompareOp}
@@ -7,7 +7,7 @@ use Rattle.value_model.specs.declared.operator.CompareOp.TheVariants as order
 use Rattle.value_model.specs.Values.{Value, Table}
 use Rattle.op_words.specs.declared.insn.Insn.{Insn}
 use Rattle.op_words.specs.declared.insn.Insn.TheVariants.{Add, Sub, Mul, Div, Mod, Pow, Idiv, Minus, AddK, SubK, MulK, DivK, ModK, PowK, IdivK, JumpIfEq, JumpIfLe, JumpIfLt, JumpIfNotEq, JumpIfNotLe, JumpIfNotLt}
-use Rattle.machine_meaning.specs.States.{Inside}
+use Rattle.machine_meaning.specs.States.{Inside, values_in}
 use Rattle.machine_meaning.specs.Moves.{environment_here}
 
 -- on two registers; minus has one operand
@@ -44,3 +44,7 @@ jumps_on order.Le false a by b = JumpIfNotLe a by b
 -- the table of the globals of the function that runs
 abbrev pub environment_value : Inside → Value
 environment_value i = Table (environment_here i.frame i.world)
+
+-- the operands of a run of `..`: so many registers from one on, the last of them first
+abbrev pub operands : (from count : ℕ) → Inside → List Value
+operands from count i = reverse (values_in i.frame i.world from count)

@@ -6,18 +6,19 @@ ghost use Rattle.op_words.specs.Chunks.{ChunkOf};
 ghost use Rattle.op_words.specs.declared.insn.Insn.TheVariants.{GetImport};
 ghost use Rattle.value_model.specs.Parts.{meant};
 ghost use Rattle.luau_tables.specs.Worlds.{MayUseIn};
+ghost use Rattle.call_frames.specs.declared.frame.ReturnKind.TheVariants.{Import};
 ghost use Rattle.machine_meaning.specs.Constants.{path_of};
 ghost use Rattle.machine_meaning.specs.Effects.{follow_names};
 ghost use Rattle.machine_meaning.specs.Instructions.{row};
 ghost use Rattle.machine_world.specs.Functions.{text_of};
 ghost use Rattle.machine_world.specs.Parts.{imports_in};
-ghost use Rattle.machine_world.specs.Rows.{proto_here};
-ghost use Rattle.machine_world.specs.Sound.{IsMachine, HasRegister, GoesOn};
+ghost use Rattle.machine_world.specs.Rows.{proto_here, takes};
+ghost use Rattle.machine_world.specs.Sound.{IsMachine, HasRegister, GoesOn, WaitsFor};
 ghost use Rattle.machine_rows.specs.Leading.{Does, IsNext};
 
 use crate::indexing::environment;
 use crate::next::Next;
-use crate::settling::settle;
+use crate::settling::{first, settle, wake};
 use byte_text::StrId;
 use call_frames::ReturnKind;
 use luau_tables::LibWorld;
@@ -74,6 +75,34 @@ pub fn follow<L: Ledger>(
     }
     machine.give(world, to, found, next);
     Ok((Next::Continues, asked))
+}
+
+/// Looks up the names of an import that are left, the first of them in the first value of a call; and how many tables were asked.
+pub fn take_followed<L: Ledger>(
+    alloc: Global,
+    machine: &mut Machine,
+    world: &LibWorld,
+    to: u8,
+    names: &[StrId],
+    next: usize,
+    values: &[Value],
+    steps: &mut Steps<L>,
+) -> Result<(Next, u16), OutOfMemory>
+    requires sound { IsMachine world.now machine.old.stack }
+    requires waits { WaitsFor machine.old.stack (Import to names.now next) }
+    requires has { HasRegister machine.old.stack to }
+    requires known { AllByRecursion (λ x. x.0 < length world.now.names) names.now }
+    requires few { length names.now ≤ 3 }
+    requires usable { AllByRecursion (MayUseIn world.now) values.now }
+    ensures makes { IfOk result (λ done. (chunk : ChunkOf) → Does chunk (takes (map (meant world.now.names) values.now)) world.now machine.old.code machine.old.stack done.1 done.0 world.now machine.new.stack) }
+    ensures sound { OnOk result (IsMachine world.now machine.new.stack) }
+    ensures next { IfOk result (λ done. IsNext world.now machine.new.stack done.0) }
+    ensures code { machine.new.code ≡ machine.old.code }
+    ensures ticks { IfOk result (λ done. steps.new ≡ steps.old + done.1) }
+{
+    let base = first(values);
+    wake(machine, world);
+    follow(alloc, machine, world, base, names, to, next, steps)
 }
 
 /// What an import holds, where the environment of the function that runs is safe, or else what its names lead to, into a register; and

@@ -5,6 +5,7 @@ mod arithmetic;
 mod comparing;
 mod importing;
 mod indexing;
+mod joining;
 mod measuring;
 mod next;
 mod settling;
@@ -12,8 +13,9 @@ mod storing;
 
 pub use arithmetic::{constant_divided, constant_less, minus, operate, operate_with_constant};
 pub use comparing::jump_on_comparison;
-pub use importing::{follow, get_import};
+pub use importing::{follow, get_import, take_followed};
 pub use indexing::{environment, get_global, get_member, get_numbered, get_table, name_call};
+pub use joining::{concat_run, join, take_joined};
 pub use measuring::length;
 pub use next::Next;
 pub use settling::settle;

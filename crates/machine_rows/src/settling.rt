@@ -1,8 +1,11 @@
 //! What follows an operation on values.
 
-ghost use Rattle.std.specs.Prelude.{◌≡◌, ℕ};
+ghost use Rattle.std.specs.Prelude.{◌≡◌, ℕ, slice_index_or};
 ghost use Rattle.op_words.specs.Chunks.{ChunkOf};
 ghost use Rattle.luau_tables.specs.Worlds.{MayUseIn};
+ghost use Rattle.call_frames.specs.Cells.{waiting};
+ghost use Rattle.call_frames.specs.declared.frame.ReturnKind.TheVariants.{Idle};
+ghost use Rattle.value_model.specs.declared.value.Value.TheVariants.{Nil};
 ghost use Rattle.meta_ops.specs.Outcomes.{meant_outcome, OfOutcome};
 ghost use Rattle.machine_meaning.specs.Effects.{agrees};
 ghost use Rattle.machine_meaning.specs.Moves.{comes};
@@ -18,7 +21,7 @@ use call_frames::ReturnKind;
 use luau_tables::LibWorld;
 use machine_world::Machine;
 use meta_ops::Outcome;
-use value_model::truthy;
+use value_model::{Value, truthy};
 
 /// Does what follows an operation, for whose value the function that runs waits so. No tables are asked any more, however many were.
 pub fn settle(machine: &mut Machine, world: &LibWorld, outcome: Outcome, kind: ReturnKind) -> Next
@@ -154,5 +157,28 @@ pub fn stored(machine: &mut Machine, world: &LibWorld, outcome: Outcome, next: u
             Next::Continues
         }
         _ => settle(machine, world, outcome, ReturnKind::Store { next }),
+    }
+}
+
+/// The function that runs waits for no call any more, and its list of values stays.
+pub(crate) fn wake(machine: &mut Machine, world: &LibWorld)
+    requires sound { IsMachine world.now machine.old.stack }
+    requires runs { Runs machine.old.stack }
+    ensures stack { machine.new.stack ≡ waiting Idle machine.old.stack }
+    ensures wakes { Becomes (changed (expects (purpose_of world.now.names Idle))) world.now machine.old.code machine.old.stack world.now machine.new.stack }
+    ensures sound { IsMachine world.now machine.new.stack }
+    ensures goes { GoesOn machine.new.stack }
+    ensures code { machine.new.code ≡ machine.old.code }
+{
+    machine.stack.set_kind(ReturnKind::Idle);
+}
+
+/// The first of a call's values, and nil where there is none.
+pub(crate) fn first(values: &[Value]) -> Value
+    ensures { result ≡ slice_index_or values.now 0 Nil }
+{
+    match values.first() {
+        Some(v) => *v,
+        None => Value::Nil,
     }
 }
