@@ -1,0 +1,5 @@
+pub mod Steps
+pub mod Owned
+pub mod Constants
+pub mod Numbered
+pub mod Beyond
