@@ -39,8 +39,8 @@ pub fn decode(checked: &Checked, names: &mut Interner, alloc: Global) -> Result<
     })
 }
 
-// A function, by the numbers of the chunk's strings.
-fn function(alloc: Global, proto: &Proto, numbers: &[StrId]) -> Result<Function, OutOfMemory>
+/// A function, by the numbers of the chunk's strings.
+pub fn function(alloc: Global, proto: &Proto, numbers: &[StrId]) -> Result<Function, OutOfMemory>
     ensures code { (chunk : ChunkOf) (texts : List Bytes) → AreNumbersOf texts chunk.strings numbers.now → IfOk result (IsFunctionOf chunk texts (proto_of proto.now)) }
     ensures imports { IfOk result HoldsNoImports }
 {

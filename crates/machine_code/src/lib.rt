@@ -9,7 +9,8 @@ mod lines;
 mod strings;
 
 pub use code::{Code, Function, Line};
-pub use decoding::decode;
+pub use decoding::{decode, function};
 pub use laws::{
     constants_are_known, growth_keeps_code, imports_keep_code, lines_are_fetched, lines_are_rows,
 };
+pub use strings::numbers;

@@ -10,7 +10,7 @@ use sqlite_items::Items;
 use std::alloc::Global;
 
 /// The numbers of the strings, which are noted where they are new.
-pub(crate) fn numbers(
+pub fn numbers(
     alloc: Global,
     strings: &[Bytes],
     names: &mut Interner,

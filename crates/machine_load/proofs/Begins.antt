@@ -1,7 +1,5 @@
 -- A script begins.
-use Rattle.std.proofs.Common.{◌≡◌, ℕ, ◌<◌, [], length, map, refl, sym, ◌∙◌, ap, subst, inl}
-use Rattle.value_model.specs.Owners.{wide}
-use Rattle.value_model.specs.Values.{Bytes}
+use Rattle.std.proofs.Common.{◌≡◌, ℕ, ◌<◌, length, map, refl, sym, ◌∙◌, ap, subst, inl}
 use Rattle.value_model.specs.declared.ids.ClosureId.{ClosureId}
 use Rattle.value_model.specs.declared.ids.Owner.{Owner}
 use Rattle.value_model.specs.declared.ids.Owner.TheVariants as owner
@@ -41,6 +39,7 @@ starts_by w main (owner.Script n) bare room =
         own = tt;
         values = tt;
         functions = tt;
+        kinds = tt;
         shared = ap (λ (x : ObjectsView). x.cells) (started.shared_now w.names w.globals w.arena n main bare.world.own room bare.none) ∙ bare.cells;
         main = bare.running;
         marks = started.marks_after w.names w.globals w.arena n main bare.world.own room bare.none bare.unmarked;

@@ -1,3 +1,7 @@
 mod Begins
+mod Decoding
+mod Imported
+mod Loads
 mod Made
+mod Noted
 mod Started

@@ -1,5 +1,5 @@
 -- The arena while what a script starts with is made.
-use Rattle.std.proofs.Common.{◌≡◌, ℕ, zero, suc, ◌<◌, true, false, List, [], ◌∷◌, ◌++◌, length, get_or, set, Option, Some, None, refl, sym, ◌∙◌, ap, subst, arith, set-set}
+use Rattle.std.proofs.Common.{◌≡◌, ℕ, ◌<◌, true, List, [], ◌∷◌, ◌++◌, length, get_or, set, Some, refl, sym, ◌∙◌, ap, subst, arith, set-set}
 use Rattle.std.proofs.lemmas.List.{length-set}
 use Rattle.value_model.specs.Owners.{wide}
 use Rattle.value_model.specs.declared.ids.Owner.{Owner}
@@ -177,14 +177,13 @@ module _ (a : ArenaView) (w : Owner) (room : slot w < length a.owners) where
         ∙ ap (λ v. new_closure (having o6) w (record { proto = main; env = v; cells = cells })) is
         ∙ ap (λ v. new_closure (having o6) w (record { proto = main; env = environment_id w; cells = v })) none
         ∙ closure_more o6 (record { proto = main; env = environment_id w; cells = [] }) in
-        let id : f ≡ main_id w = ef ∙ ap (λ v. next_closure a6 v) same ∙ ap (λ x. next_closure x w) at6 ∙ closure_next o6 in
-        (
+        let id : f ≡ main_id w = ef ∙ ap (λ v. next_closure a6 v) same ∙ ap (λ x. next_closure x w) at6 ∙ closure_next o6 in (
           id,
           e8
-          ∙ ap (λ v. new_thread a7 v (value.Closure f)) same
-          ∙ ap (λ x. new_thread x w (value.Closure f)) at7
-          ∙ ap (λ v. new_thread (having o7) w (value.Closure v)) id
-          ∙ thread_more o7 (value.Closure (main_id w)),
+              ∙ ap (λ v. new_thread a7 v (value.Closure f)) same
+              ∙ ap (λ x. new_thread x w (value.Closure f)) at7
+              ∙ ap (λ v. new_thread (having o7) w (value.Closure v)) id
+              ∙ thread_more o7 (value.Closure (main_id w)),
         )
 
 -- where the owner's first table is there, the owner is

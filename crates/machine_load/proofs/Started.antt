@@ -1,39 +1,34 @@
 -- A script that has what it starts with: what its part of the arena means, and that it may run from there.
-use Rattle.std.proofs.Common.{◌≡◌, ◌≢◌, ℕ, zero, suc, ◌+◌, ◌<◌, ◌≤◌, inl, inr, Bool, true, false, List, [], ◌∷◌, ◌++◌, length, map, get_or, set, Option, Some, None, IfSome, slice_get, refl, sym, ◌∙◌, ap, subst, arith, nat_eq}
-use Rattle.std.proofs.lemmas.Bool.{cases_eq, eqb-true, eqb-false}
-use Rattle.std.proofs.lemmas.List.{length-set}
+use Rattle.std.proofs.Common.{◌≡◌, ℕ, zero, suc, ◌+◌, ◌<◌, ◌≤◌, inl, inr, Bool, true, false, List, [], ◌∷◌, length, map, get_or, None, IfSome, refl, sym, ◌∙◌, ap, subst, arith, nat_eq}
+use Rattle.std.proofs.lemmas.Bool.{eqb-true, eqb-false}
 use Rattle.std.proofs.lemmas.Option.{get_or_from_slice_get, slice_get_within}
 use Rattle.std.specs.Prelude.{codes, option_map}
 use Rattle.value_model.specs.Owners.{wide}
-use Rattle.value_model.specs.Parts.{meant, table_ref, bytes_at}
+use Rattle.value_model.specs.Parts.{meant, table_ref}
 use Rattle.value_model.specs.Store as store
 use Rattle.value_model.specs.Values as m
 use Rattle.value_model.specs.Values.{Bytes}
 use Rattle.value_model.specs.declared.ids.Owner.{Owner}
 use Rattle.value_model.specs.declared.ids.Owner.TheVariants as owner
-use Rattle.value_model.specs.declared.ids.ShortOwner.TheVariants.{Frozen, Script}
+use Rattle.value_model.specs.declared.ids.ShortOwner.TheVariants.{Script}
 use Rattle.value_model.specs.declared.ids.TableId.{TableId}
-use Rattle.value_model.specs.declared.ids.ClosureId.{ClosureId}
-use Rattle.value_model.specs.declared.ids.CellId.{CellId}
-use Rattle.value_model.specs.declared.ids.ThreadId.{ThreadId}
-use Rattle.value_model.specs.declared.value.Value.{Value}
 use Rattle.value_model.specs.declared.value.Value.TheVariants as value
-use Rattle.value_arena.specs.Arenas.{ArenaView, HasTable, HasClosure, HasCell, HasThread, objects_of, with_objects, slot, narrow, table_at, closure_at, cell_at, thread_at}
+use Rattle.value_arena.specs.Arenas.{ArenaView, HasTable, HasClosure, objects_of, with_objects, slot, narrow, table_at, closure_at, cell_at, thread_at}
 use Rattle.value_arena.specs.Growing.{Grows}
 use Rattle.value_arena.specs.Objects.{ObjectsView, no_objects, no_closure, no_coroutine}
 use Rattle.value_arena.specs.Owning.{MayHold, MayBeTable, MayBeClosure, MayBeThread, IsOwned}
-use Rattle.value_arena.specs.Tables.{TableView, no_table}
+use Rattle.value_arena.specs.Tables.{no_table}
 use Rattle.value_arena.proofs.Growing.{table_stays}
 use Rattle.value_arena.proofs.Laws.{one_owner, wide_narrow, objects_now, objects_other}
 use Rattle.value_arena.proofs.Owning.{hold_on, table_on, closure_on, thread_on}
-use Rattle.luau_tables.specs.Own.{HasText, HasTextsInTable, HasTexts, IsOwn, MayUse}
+use Rattle.luau_tables.specs.Own.{HasText, HasTextsInTable, HasTexts, IsOwn}
 use Rattle.luau_tables.specs.Globals.{globals_of}
 use Rattle.luau_tables.specs.Part.{store_of, table_of, environment_of, coroutine_of, place_of_thread}
 use Rattle.luau_tables.specs.declared.globals.Globals.{Globals}
 use Rattle.luau_tables.proofs.OwnKept.{own_on, script_is}
 use Rattle.machine_world.specs.Parts.{environment_id}
 use Rattle.value_model.specs.Fresh.{empty_environment}
-use Rattle.machine_load.specs.Beginning.{started, first_objects, metatable_id, main_id}
+use Rattle.machine_load.specs.Beginning.{started, first_objects, main_id}
 
 -- ---- each owner's objects
 

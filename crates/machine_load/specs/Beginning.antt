@@ -1,5 +1,5 @@
 -- What a script has when it starts: its environment with a metatable, its main function, and what stands for that function's own run.
-use Rattle.std.specs.Prelude.{◌≡◌, ◌<◌, ℕ, List, [], ◌∷◌, map, length, true, false, None, Some, codes}
+use Rattle.std.specs.Prelude.{◌≡◌, ℕ, [], ◌∷◌, map, length, true, false, None, Some, codes}
 use Rattle.value_model.specs.Fresh.{empty_environment, main_run}
 use Rattle.value_model.specs.Store.{Store, TableOf, script_environment}
 use Rattle.value_model.specs.Values.{TableRef, Text, Table}
@@ -8,13 +8,12 @@ use Rattle.value_model.specs.declared.ids.Owner.TheVariants.{Frozen}
 use Rattle.value_model.specs.declared.ids.TableId.{TableId}
 use Rattle.value_model.specs.declared.ids.ClosureId.{ClosureId}
 use Rattle.value_model.specs.declared.value.Value.TheVariants as value
-use Rattle.value_arena.specs.Arenas.{ArenaView, objects_of, with_objects, narrow, slot, table_at}
+use Rattle.value_arena.specs.Arenas.{ArenaView, objects_of, with_objects, narrow, table_at}
 use Rattle.value_arena.specs.Objects.{ObjectsView, no_objects, new_coroutine}
 use Rattle.luau_tables.specs.Worlds.{IsWorld, store_in}
 use Rattle.luau_tables.specs.declared.globals.Globals.{Globals}
 use Rattle.luau_tables.specs.declared.globals.LibWorld.{LibWorld}
 use Rattle.call_frames.specs.Stacks.{no_stack}
-use Rattle.machine_meaning.specs.States.{Body}
 use Rattle.machine_world.specs.Functions.{body_of}
 use Rattle.machine_world.specs.Parts.{environment_id}
 use Rattle.machine_world.specs.Sound.{IsMachine}

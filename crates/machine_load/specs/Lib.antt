@@ -1,1 +1,3 @@
 pub mod Beginning
+pub mod Imports
+pub mod Loaded

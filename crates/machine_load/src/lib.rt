@@ -2,3 +2,7 @@
 #![tactic(auto)]
 
 mod beginning;
+mod imports;
+mod loading;
+
+pub use loading::load;

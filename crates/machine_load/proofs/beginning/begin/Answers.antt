@@ -1,4 +1,4 @@
-use Rattle.std.proofs.Common.{◌≡◌, ap}
+use Rattle.std.proofs.Common.{ap}
 use Rattle.value_model.specs.declared.ids.ClosureId.{ClosureId}
 use Rattle.machine_load.proofs.Begins.{has_started, may_use_main}
 use Rattle.machine_load.proofs.beginning.begin.Goals as goal

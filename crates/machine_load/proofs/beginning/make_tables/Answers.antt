@@ -1,7 +1,5 @@
-use Rattle.std.proofs.Common.{◌≡◌, ◌∙◌, ap}
-use Rattle.value_arena.specs.Arenas.{ArenaView}
-use Rattle.value_arena.proofs.Growing.{table_stays, grows_on, with_table_grows}
-use Rattle.luau_tables.specs.declared.globals.LibWorld.{LibWorld}
+use Rattle.std.proofs.Common.{◌∙◌, ap}
+use Rattle.value_arena.proofs.Growing.{table_stays}
 use Rattle.machine_load.proofs.Made as made
 use Rattle.machine_load.proofs.beginning.make_tables.Goals as goal
 
