@@ -1,0 +1,5 @@
+pub mod Waiting
+pub mod Moving
+pub mod Parameters
+pub mod Protecting
+pub mod Callees

@@ -1,0 +1,18 @@
+//! Calls, protected calls and errors: what the machine does where no instruction runs.
+#![tactic(auto)]
+
+mod calling;
+mod entering;
+mod focus;
+mod handing;
+mod innermost;
+mod lists;
+mod protecting;
+mod raising;
+
+pub use calling::invoke;
+pub use entering::enter_function;
+pub use focus::{Caller, Focus, Led};
+pub use handing::hand;
+pub use innermost::{Innermost, what_waits};
+pub use raising::{fault, raise};
