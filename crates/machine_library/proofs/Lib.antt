@@ -1,0 +1,5 @@
+pub mod Asked
+pub mod Answering
+pub mod Kept
+pub mod Leading
+pub mod Resumed
