@@ -1,0 +1,9 @@
+pub mod Lists
+pub mod Walking
+pub mod Simple
+pub mod States
+pub mod Uses
+pub mod Operators
+pub mod Bodies
+pub mod Functions
+pub mod Whole

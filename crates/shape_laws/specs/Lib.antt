@@ -1,0 +1,5 @@
+pub mod Order
+pub mod Jumps
+pub mod Named
+pub mod Shaped
+pub mod Laws

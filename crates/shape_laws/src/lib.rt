@@ -1,0 +1,6 @@
+//! Laws of the shape of emitted code.
+#![tactic(auto)]
+
+mod laws;
+
+pub use laws::code_shapes;
