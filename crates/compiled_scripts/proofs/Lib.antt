@@ -1,5 +1,6 @@
 pub mod Clear
 pub mod LoopWords
+pub mod Counts
 pub mod Linked
 pub mod Scripts
 pub mod Accepted

@@ -20,7 +20,6 @@ use Rattle.scope_laws.specs.Sight.{Sight, Part, function, Sees}
 use Rattle.function_registers.specs.declared.walk.FuncRegisters.{FuncRegisters}
 use Rattle.function_registers.specs.Registers.{all_entries, registers_of}
 use Rattle.register_laws.proofs.Rising.{registers_found}
-use Rattle.count_laws.specs.Laws.{HasFew, HaveFew}
 use Rattle.operand_laws.specs.Fitting as operands
 use Rattle.operand_laws.specs.Laws.{IsFitting, AreFitting}
 use Rattle.script_compiler.specs.Compiled as compiled
@@ -30,6 +29,7 @@ use Rattle.compiled_runs.proofs.Reading.{AllFit}
 use Rattle.compiled_runs.proofs.Functions.{finished, its_prototype}
 use Rattle.compiled_runs.proofs.Bodies.{func_protos}
 use Rattle.compiled_runs.proofs.Chunks.{Linked, Chunk}
+use Rattle.compiled_scripts.proofs.Counts.{HasFew, HaveFew}
 
 -- ---- lists
 

@@ -1,5 +1,5 @@
 -- Each run of an accepted script all of whose nodes are built is one of its chunk, and the other way round.
-use Rattle.std.proofs.Common.{◌≡◌, ℕ, ◌≤◌, true, false, List, [], ◌∷◌, refl, sym, subst}
+use Rattle.std.proofs.Common.{◌≡◌, ℕ, ◌≤◌, true, false, List, [], ◌∷◌, length, refl, sym, subst}
 use Rattle.byte_text.specs.declared.fixed.StrId.{StrId}
 use Rattle.syntax_tree.specs.declared.bindings.Bindings.{Bindings}
 use Rattle.syntax_tree.specs.declared.tree.FuncBody.{FuncBody, out-FuncBody}
@@ -18,8 +18,9 @@ use Rattle.emit_expr.specs.declared.draft.Emitter.{Emitter}
 use Rattle.node_code.specs.Code.{script_code}
 use Rattle.scope_laws.specs.Sight.{Sight, Part, function, Sees}
 use Rattle.link_laws.proofs.Walks.{left, right}
-use Rattle.count_laws.specs.Laws.{HaveFew}
-use Rattle.count_laws.proofs.Counts.{counts_are_few}
+use Rattle.link_laws.proofs.Whole.{code_links}
+use Rattle.shape_laws.proofs.Whole.{code_shapes}
+use Rattle.upvalue_laws.proofs.Few.{upvalues_are_few}
 use Rattle.operand_laws.specs.Laws.{AreFitting}
 use Rattle.operand_laws.proofs.Whole.{operands_fit}
 use Rattle.script_compiler.specs.Compiled.{IsCompiled}
@@ -36,6 +37,7 @@ use Rattle.compiled_runs.proofs.Trees.{script_in}
 use Rattle.compiled_scripts.specs.Laws.{RunAlike}
 use Rattle.compiled_scripts.proofs.Clear.{IsClear, inner_clear, func_rules, few_registers}
 use Rattle.compiled_scripts.proofs.LoopWords.{ends_in_loop}
+use Rattle.compiled_scripts.proofs.Counts.{HaveFew, have_few}
 use Rattle.compiled_scripts.proofs.Linked as linked
 
 false_true : {A : Type 0} → false ≡ true → A
@@ -74,7 +76,10 @@ module _ (main : FuncBody) (b : Bindings) (texts : List (List ℕ)) (chunk : Chu
   fitting = subst (λ x. AreFitting (script_code x tree.main).protos) (sym is) (operands_fit main proper sound)
 
   pub counts : HaveFew b whole.protos
-  counts = subst (λ x. HaveFew x (script_code x tree.main).protos) (sym is) (counts_are_few main sound c.few_nodes)
+  counts =
+      subst (λ x. HaveFew x (script_code x tree.main).protos) (sym is)
+      (have_few (bound tree) (length (script_code (bound tree) tree.main).strings) [] (script_code (bound tree) tree.main).protos
+      (code_links main sound c.few_nodes) (code_shapes main proper sound) (upvalues_are_few main sound))
 
   pub few : (f : FuncBody) (s : Sight) (after : List Part) → Sees tree.main s (function f ∷ after) → need f ≤ 250
   few f s after sees = few_registers b f (each_clear f s after sees).1

@@ -1,5 +1,0 @@
-pub mod ThinStates
-pub mod ThinSteps
-pub mod ThinTrees
-pub mod FewCaptured
-pub mod Counts
