@@ -1,9 +1,10 @@
 -- The constants that well-formed code reads are there.
-use Rattle.std.proofs.Common.{◌≡◌, refl, sym, ap, ◌∙◌, ℕ, zero, suc, ◌<◌, ◌^◌, ◌/◌, ◌%◌, ℤ, pos, negsuc, Bool, true, false, List, [], ◌∷◌, length, map, Option, Some, None, arith, nat_lt, option_map}
+use Rattle.std.proofs.Common.{◌≡◌, refl, sym, ap, ◌∙◌, ℕ, zero, suc, ◌<◌, ◌≤◌, ◌^◌, ◌/◌, ◌%◌, ℤ, pos, negsuc, Bool, true, false, List, [], ◌∷◌, length, map, take, Option, Some, None, arith, nat_lt, option_map}
 use Rattle.std.specs.Prelude.{slice_get, slice_index_or, is_some}
 use Rattle.std.specs.Option.{option_and_then}
 use Rattle.std.specs.List.{list_all}
 use Rattle.std.proofs.lemmas.Bool.Decides.{nat_tests}
+use Rattle.std.proofs.lemmas.List.{length-map}
 use Rattle.std.proofs.lemmas.Option.{slice_get-get_or}
 use Rattle.value_model.specs.Values.{Value, Nil, Boolean, Number, Text, Bytes}
 use Rattle.op_words.specs.declared.chunk.Const.TheVariants as constant
@@ -98,18 +99,31 @@ name_known chunk n k i = name_found chunk n k i.constant i.is i.wanted i.sound
 pub record IsPath (chunk : ChunkOf) (n word : ℕ) : Type 0 where
   pub names : List Bytes
   pub is : path_of chunk n word ≡ Some names
+  pub few : length names ≤ 3
 
 pub record AreSome (os : List (Option Bytes)) : Type 0 where
   pub names : List Bytes
   pub is : all_some os ≡ Some names
+  pub count : length names ≡ length os
 
 some_more : (o : Option Bytes) (os : List (Option Bytes)) → is_some o ≡ true → AreSome os → AreSome (o ∷ os)
 some_more None os e i = absurd cc
-some_more (Some x) os e i = record { names = x ∷ i.names; is = ap (option_map (λ ys. x ∷ ys)) i.is }
+some_more (Some x) os e i = record { names = x ∷ i.names; is = ap (option_map (λ ys. x ∷ ys)) i.is; count = ap suc i.count }
 
 are_some : (f : ℕ → Option Bytes) (ks : List ℕ) → list_all (λ k. is_some (f k)) ks ≡ true → AreSome (map f ks)
-are_some f [] e = record { names = []; is = refl }
+are_some f [] e = record { names = []; is = refl; count = refl }
 are_some f (k ∷ ks) e = some_more (f k) (map f ks) (both (is_some (f k)) _ e).0 (are_some f ks (both (is_some (f k)) _ e).1)
+
+-- an import has three names at most
+few_taken : {X : Type 0} (n : ℕ) (a b c : X) → length (take n (a ∷ b ∷ c ∷ [])) ≤ 3
+few_taken zero a b c = omega arith
+few_taken (suc zero) a b c = omega arith
+few_taken (suc (suc zero)) a b c = omega arith
+few_taken {X} (suc (suc (suc n))) a b c = none n
+  where
+    none : (n : ℕ) → suc (suc (suc (length (take {A = X} n [])))) ≤ 3
+    none zero = omega arith
+    none (suc n) = omega arith
 
 path_found : (chunk : ChunkOf) (n word : ℕ) → is_import chunk n word ≡ true → IsPath chunk n word
 path_found chunk n word e =
@@ -117,7 +131,8 @@ path_found chunk n word e =
     let front = (both _ (is_spare k (word % 2 ^ 10) 2) e).0 in
     let names = (both _ (list_all (λ j. is_some (name_at chunk n j)) (indices_of word)) (both _ (is_spare k (word / 2 ^ 10 % 2 ^ 10) 1) front).0).1 in
     let i = are_some (name_at chunk n) (indices_of word) names in
-    record { names = i.names; is = i.is }
+    let few = few_taken k (word / 2 ^ 20 % 2 ^ 10) (word / 2 ^ 10 % 2 ^ 10) (word % 2 ^ 10) in
+    record { names = i.names; is = i.is; few = omega (arith, i.count, length-map (indices_of word) (name_at chunk n), few) }
 
 import_found : (chunk : ChunkOf) (n word : ℕ) (c : Const) → is_wanted (AnImport word) (Some c) ≡ true → is_sound chunk n c ≡ true
     → IsPath chunk n word

@@ -1,5 +1,5 @@
 -- What instructions are made of leads from safe states to safe states.
-use Rattle.std.proofs.Common.{◌≡◌, refl, sym, ◌∙◌, ℕ, zero, suc, ◌+◌, ◌-◌, ℤ, pos, ◌+ℤ◌, Bool, true, false, List, [], ◌∷◌, length, Option, Some, None, subst}
+use Rattle.std.proofs.Common.{◌≡◌, refl, sym, ◌∙◌, ℕ, zero, suc, ◌+◌, ◌-◌, ◌<◌, ◌≤◌, ℤ, pos, ◌+ℤ◌, Bool, true, false, List, [], ◌∷◌, length, Option, Some, None, subst, arith}
 use Rattle.std.specs.Prelude.{MatchOption}
 use Rattle.value_model.specs.declared.builtin.Builtin.{Builtin}
 use Rattle.value_model.specs.declared.operator.ArithOp.{ArithOp}
@@ -42,18 +42,18 @@ module _ {chunk : ChunkOf} {z : Sizes} {p : ProtoOf} {f : Frame} {fs : List Fram
 
   -- ---- operations
 
-  pub indexes : (base key : Value) (to next : ℕ) → IsMade z.functions base → IsMade z.functions key → IsPlace p next
+  pub indexes : (base key : Value) (to next : ℕ) → IsMade z.functions base → IsMade z.functions key → to < p.registers → IsPlace p next
       → IsSafeMove chunk (index base key to next f fs w)
-  indexes base key to next i j h = settled _ (Into to next) s (choose_made z.functions (store_of w) (Index base key) s.world.store (i, j)) h
+  indexes base key to next i j r h = settled _ (Into to next) s (choose_made z.functions (store_of w) (Index base key) s.world.store (i, j)) (r, h)
 
   pub newindexes : (base key v : Value) (next : ℕ) → IsMade z.functions base → IsMade z.functions key → IsMade z.functions v → IsPlace p next
       → IsSafeMove chunk (newindex base key v next f fs w)
   newindexes base key v next i j k h =
       settled _ (Stores next) s (choose_made z.functions (store_of w) (Newindex base key v) s.world.store (i, j, k)) h
 
-  pub calculates : (o : ArithOp) (v u : Value) (to next : ℕ) → IsMade z.functions v → IsMade z.functions u → IsPlace p next
+  pub calculates : (o : ArithOp) (v u : Value) (to next : ℕ) → IsMade z.functions v → IsMade z.functions u → to < p.registers → IsPlace p next
       → IsSafeMove chunk (calculate o v u to next f fs w)
-  calculates o v u to next i j h = settled _ (Into to next) s (choose_made z.functions (store_of w) (Arith o v u) s.world.store (i, j)) h
+  calculates o v u to next i j r h = settled _ (Into to next) s (choose_made z.functions (store_of w) (Arith o v u) s.world.store (i, j)) (r, h)
 
   pub compares : (o : CompareOp) (v u : Value) (b : Bool) (by : ℤ) (next : ℕ) → IsMade z.functions v → IsMade z.functions u → LeadsOn p f.place by
       → IsPlace p next
@@ -61,40 +61,45 @@ module _ {chunk : ChunkOf} {z : Sizes} {p : ProtoOf} {f : Frame} {fs : List Fram
   compares o v u b by next i j l h =
       settled _ (Compares b by next) s (choose_made z.functions (store_of w) (Compare o v u) s.world.store (i, j)) (l, h)
 
-  pub measures : (v : Value) (to next : ℕ) → IsMade z.functions v → IsPlace p next
+  pub measures : (v : Value) (to next : ℕ) → IsMade z.functions v → to < p.registers → IsPlace p next
       → IsSafeMove chunk (settle (choose (Length v) (store_of w)) (Into to next) f fs w)
-  measures v to next i h = settled _ (Into to next) s (choose_made z.functions (store_of w) (Length v) s.world.store i) h
+  measures v to next i r h = settled _ (Into to next) s (choose_made z.functions (store_of w) (Length v) s.world.store i) (r, h)
 
   pub decides : (b : Bool) (v u : Value) (to next : ℕ) → IsMade z.functions v → IsMade z.functions u → IsPlace p next
       → IsSafeMove chunk (decided b v u to next f fs w)
   decides true v u to next i j h = gives s to v next i h
   decides false v u to next i j h = gives s to u next j h
 
-  pub joins : (vs : List Value) (to next : ℕ) → AreMade z.functions vs → is_some_value vs ≡ true → IsPlace p next
+  pub joins : (vs : List Value) (to next : ℕ) → AreMade z.functions vs → is_some_value vs ≡ true → to < p.registers → IsPlace p next
       → IsSafeMove chunk (join vs to next f fs w)
-  joins [] to next i e h = absurd cc
-  joins (v ∷ []) to next i e h = gives s to v next i.0 h
-  joins (v ∷ u ∷ vs) to next i e h =
-      settled _ (Joins vs to next) s (choose_made z.functions (store_of w) (Concat u v) s.world.store (i.1.0, i.0)) (i.1.1, h)
+  joins [] to next i e r h = absurd cc
+  joins (v ∷ []) to next i e r h = gives s to v next i.0 h
+  joins (v ∷ u ∷ vs) to next i e r h =
+      settled _ (Joins vs to next) s (choose_made z.functions (store_of w) (Concat u v) s.world.store (i.1.0, i.0)) (i.1.1, r, h)
 
-  pub follows_names : (base : Value) (names : List Bytes) (to next : ℕ) → IsMade z.functions base → IsPlace p next
+  pub follows_names : (base : Value) (names : List Bytes) (to next : ℕ) → IsMade z.functions base → length names ≤ 3 → to < p.registers → IsPlace p next
       → IsSafeMove chunk (follow_names base names to next f fs w)
-  follows_names base [] to next i h = gives s to base next i h
-  follows_names base (x ∷ xs) to next i h =
-      settled _ (Follows xs to next) s (choose_made z.functions (store_of w) (Index base (Text x)) s.world.store (i, tt)) h
+  follows_names base [] to next i few r h = gives s to base next i h
+  follows_names base (x ∷ xs) to next i few r h =
+      settled _ (Follows xs to next) s (choose_made z.functions (store_of w) (Index base (Text x)) s.world.store (i, tt)) (omega (arith, few), r, h)
 
   pub follows : (base : Value) (names : Option (List Bytes)) (xs : List Bytes) (to next : ℕ) → names ≡ Some xs → IsMade z.functions base
-      → IsPlace p next → IsSafeMove chunk (follow base names to next f fs w)
-  follows base None xs to next e i h = absurd cc
-  follows base (Some names) xs to next e i h =
-      record { sizes = z; world = s.world; doing = (i, active (λ p f. IsPlace p next) s h) }
+      → length xs ≤ 3 → to < p.registers → IsPlace p next → IsSafeMove chunk (follow base names to next f fs w)
+  follows base None xs to next e i few r h = absurd cc
+  follows base (Some names) xs to next e i few r h =
+      let same : names ≡ xs = cc in
+      record {
+        sizes = z;
+        world = s.world;
+        doing = (i, active (λ p f. (length names ≤ 3) × (to < p.registers) × IsPlace p next) s (subst (λ ns. length ns ≤ 3) (sym same) few, r, h));
+      }
 
   pub imports : (b : Bool) (v : Option Value) (names : Option (List Bytes)) (xs : List Bytes) (to next : ℕ)
-      → MatchOption v (Unit {0}) (IsMade z.functions) → names ≡ Some xs → IsPlace p next
+      → MatchOption v (Unit {0}) (IsMade z.functions) → names ≡ Some xs → length xs ≤ 3 → to < p.registers → IsPlace p next
       → IsSafeMove chunk (import_of b v names to next f fs w)
-  imports true (Some v) names xs to next i e h = gives s to v next i h
-  imports true None names xs to next i e h = follows (Table (environment_here f w)) names xs to next e tt h
-  imports false v names xs to next i e h = follows (Table (environment_here f w)) names xs to next e tt h
+  imports true (Some v) names xs to next i e few r h = gives s to v next i h
+  imports true None names xs to next i e few r h = follows (Table (environment_here f w)) names xs to next e tt few r h
+  imports false v names xs to next i e few r h = follows (Table (environment_here f w)) names xs to next e tt few r h
 
   -- ---- lists and calls
 
@@ -102,9 +107,12 @@ module _ {chunk : ChunkOf} {z : Sizes} {p : ProtoOf} {f : Frame} {fs : List Fram
   list_made zero from = values_made s from (f.top - from)
   list_made (suc n) from = values_made s from n
 
-  pub calls : (base arguments count next : ℕ) → IsPlace p next → IsSafeMove chunk (call base arguments count next f fs w)
-  calls base arguments count next h =
-      record { sizes = z; world = s.world; doing = (value_made s base, list_made arguments (base + 1), waiting_frame s (Results base count next) h) }
+  pub calls : (base arguments count next : ℕ) → base < p.registers → IsPlace p next → IsSafeMove chunk (call base arguments count next f fs w)
+  calls base arguments count next r h = record {
+    sizes = z;
+    world = s.world;
+    doing = (value_made s base, list_made arguments (base + 1), waiting_frame s (Results base count next) (r, h));
+  }
 
   pub delivers : (to next : ℕ) (vs : List Value) → AreMade z.functions vs → IsPlace p next → IsSafeMove chunk (deliver to next vs f fs w)
   delivers to next vs i h =
@@ -173,16 +181,16 @@ module _ {chunk : ChunkOf} {z : Sizes} {p : ProtoOf} {f : Frame} {fs : List Fram
   IterationIsMade (CallsIter g vs) = IsMade z.functions g × AreMade z.functions vs
   IterationIsMade (NotIterable e) = Unit {0}
 
-  pub iterates : (i : Iteration) (a : ℕ) (by : ℤ) → IterationIsMade i → LeadsOn p f.place by → IsSafeMove chunk (iterated i a by f fs w)
-  iterates (Generates g u c) a by m l = generates a by g u c m.0 m.1 m.2 l
-  iterates (CallsIter g vs) a by m l = record { sizes = z; world = s.world; doing = (m.0, m.1, waiting_frame s (Begins a by) l) }
-  iterates (NotIterable e) a by m l = faults s e
+  pub iterates : (i : Iteration) (a : ℕ) (by : ℤ) → IterationIsMade i → a + 2 < p.registers → LeadsOn p f.place by → IsSafeMove chunk (iterated i a by f fs w)
+  iterates (Generates g u c) a by m r l = generates a by g u c m.0 m.1 m.2 l
+  iterates (CallsIter g vs) a by m r l = record { sizes = z; world = s.world; doing = (m.0, m.1, waiting_frame s (Begins a by) (r, l)) }
+  iterates (NotIterable e) a by m r l = faults s e
 
-  pub asks_generator : (a x : ℕ) (by : ℤ) (next : ℕ) → LeadsTo p f.place by → IsPlace p next → IsSafeMove chunk (ask a x by next f fs w)
-  asks_generator a x by next l h = record {
+  pub asks_generator : (a x : ℕ) (by : ℤ) (next : ℕ) → a + (3 + x) ≤ p.registers → LeadsTo p f.place by → IsPlace p next → IsSafeMove chunk (ask a x by next f fs w)
+  asks_generator a x by next r l h = record {
     sizes = z;
     world = s.world;
-    doing = (value_made s a, (value_made s (a + 1), (value_made s (a + 2), tt)), waiting_frame s (Turns a x by next) (l, h));
+    doing = (value_made s a, (value_made s (a + 1), (value_made s (a + 2), tt)), waiting_frame s (Turns a x by next) (r, l, h));
   }
 
   turns_with : (v : Value) (vs : List Value) (a x : ℕ) (by : ℤ) → IsMade z.functions v → AreMade z.functions vs → LeadsTo p f.place by
@@ -204,25 +212,25 @@ module _ {chunk : ChunkOf} {z : Sizes} {p : ProtoOf} {f : Frame} {fs : List Fram
 
   pub receives : (q : Purpose) (vs : List Value) → AreMade z.functions vs → Awaits p z.functions f.place q → IsSafeMove chunk (receive q vs f fs w)
   receives Idle vs i h = absurd h
-  receives (Results to count next) vs i h = gives_results s to count next vs i h
-  receives (Into to next) vs i h = gives s to (first vs) next (first_made z.functions vs i) h
+  receives (Results to count next) vs i h = gives_results s to count next vs i h.1
+  receives (Into to next) vs i h = gives s to (first vs) next (first_made z.functions vs i) h.1
   receives (Compares b by next) vs i h = branches s (agrees b (is_true (first vs))) by next h.0 h.1
   receives (Joins us to next) vs i h = record {
     sizes = z;
     world = s.world;
-    doing = ((first_made z.functions vs i, h.0), refl, active (λ p f. IsPlace p next) s h.1);
+    doing = ((first_made z.functions vs i, h.0), refl, active (λ p f. (to < p.registers) × IsPlace p next) s (h.1, h.2));
   }
   receives (Follows xs to next) vs i h = record {
     sizes = z;
     world = s.world;
-    doing = (first_made z.functions vs i, active (λ p f. IsPlace p next) s h);
+    doing = (first_made z.functions vs i, active (λ p f. (length xs ≤ 3) × (to < p.registers) × IsPlace p next) s h);
   }
   receives (Stores next) vs i h = goes s next h
   receives (Begins a by) vs i h =
       generates a by (first vs) (first (rest vs)) (first (rest (rest vs))) (first_made z.functions vs i)
       (first_made z.functions (rest vs) (rest_made z.functions vs i))
-      (first_made z.functions (rest (rest vs)) (rest_made z.functions (rest vs) (rest_made z.functions vs i))) h
-  receives (Turns a x by next) vs i h = turns vs a x by next i h.0 h.1
+      (first_made z.functions (rest (rest vs)) (rest_made z.functions (rest vs) (rest_made z.functions vs i))) h.1
+  receives (Turns a x by next) vs i h = turns vs a x by next i h.1 h.2
 
   -- ---- fast calls
 

@@ -43,7 +43,7 @@ module _ (z y : Sizes) (more : AreMore z y) where
   awaits_more p place (Results to count next) h = h
   awaits_more p place (Into to next) h = h
   awaits_more p place (Compares b by next) h = h
-  awaits_more p place (Joins us to next) h = (values_more us h.0, h.1)
+  awaits_more p place (Joins us to next) h = (values_more us h.0, h.1, h.2)
   awaits_more p place (Follows xs to next) h = h
   awaits_more p place (Stores next) h = h
   awaits_more p place (Begins a by) h = h

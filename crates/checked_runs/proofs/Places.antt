@@ -1,12 +1,12 @@
 -- Places of well-formed code: where it starts, what follows an instruction, and where jumps lead.
-use Rattle.std.proofs.Common.{◌≡◌, ◌⊎◌, inl, inr, refl, sym, ap, ◌∙◌, ℕ, ◌+◌, ◌+ℤ◌, ℤ, pos, negsuc, Bool, true, false, ◌&&◌, ◌||◌, not, List, [], ◌∷◌, ◌++◌, length, Some, arith, nat_eq, append_assoc, subst}
+use Rattle.std.proofs.Common.{◌≡◌, ◌⊎◌, inl, inr, refl, sym, ap, ◌∙◌, ℕ, ◌+◌, ◌<◌, ◌≤◌, ◌+ℤ◌, ℤ, pos, negsuc, Bool, true, false, ◌&&◌, ◌||◌, not, List, [], ◌∷◌, ◌++◌, length, Some, arith, nat_eq, append_assoc, subst}
 use Rattle.std.specs.Prelude.{if◌then◌else◌, is_some, int_le}
-use Rattle.std.specs.List.{list_any}
+use Rattle.std.specs.List.{list_any, list_all}
 use Rattle.std.proofs.lemmas.Bool.Decides.{nat_tests}
 use Rattle.std.proofs.lemmas.Int.{ints}
 use Rattle.op_words.specs.declared.insn.Insn.{Insn}
 use Rattle.op_words.specs.Chunks.{ChunkOf, ProtoOf}
-use Rattle.machine_meaning.specs.Needs.{Line, lines, is_capture, is_fast, reads_top, bound_by, target, jump_of, goes_back}
+use Rattle.machine_meaning.specs.Needs.{Line, lines, Range, registers_of, fits_range, is_own, is_capture, is_fast, reads_top, bound_by, target, jump_of, goes_back}
 use Rattle.machine_meaning.specs.WellFormed.{Before, unless, passing, fall_faults, end_faults, at_place, landings, lands, may_land, turns_well, same_truth, is_end, is_closure_or_capture, at_start}
 use Rattle.checked_runs.specs.Places.{IsPlace, LeadsTo, LeadsOn, LeadsBack}
 use Rattle.checked_runs.proofs.Lines.{IsRead, line_read, first_line}
@@ -155,6 +155,25 @@ pub record Stands (chunk : ChunkOf) (n : ℕ) (p : ProtoOf) (place : ℕ) (insn 
   pub read : IsRead p.code (record { place = place; insn = insn; next = next }) after
   pub rules : KeepsRules chunk n p (passed at_start before) (record { place = place; insn = insn; next = next }) after
   pub runs : is_capture insn ≡ false
+
+-- its first registers are the function's own
+first_range : {chunk : ChunkOf} {n : ℕ} {p : ProtoOf} {place : ℕ} {insn : Insn} {next : ℕ} → Stands chunk n p place insn next → (r : Range) (rs : List Range)
+    → registers_of insn ≡ r ∷ rs → fits_range p.registers r ≡ true
+first_range {chunk} {n} {p} {place} {insn} {next} at r rs e =
+    (both (fits_range p.registers r) (list_all (fits_range p.registers) rs)
+    (sym (ap (list_all (fits_range p.registers)) e) ∙ (both (list_all (fits_range p.registers) (registers_of insn)) (is_own insn) at.rules.registers).0)).0
+
+pub own_register : {chunk : ChunkOf} {n : ℕ} {p : ProtoOf} {place : ℕ} {insn : Insn} {next : ℕ} → Stands chunk n p place insn next → (to : ℕ) (rs : List Range)
+    → registers_of insn ≡ (to, 1) ∷ rs → to < p.registers
+own_register at to rs e = let k = first_range at (to, 1) rs e in grind (arith, nat_tests)
+
+pub own_three : {chunk : ChunkOf} {n : ℕ} {p : ProtoOf} {place : ℕ} {insn : Insn} {next : ℕ} → Stands chunk n p place insn next → (a : ℕ) (rs : List Range)
+    → registers_of insn ≡ (a, 3) ∷ rs → a + 2 < p.registers
+own_three at a rs e = let k = first_range at (a, 3) rs e in grind (arith, nat_tests)
+
+pub own_loop : {chunk : ChunkOf} {n : ℕ} {p : ProtoOf} {place : ℕ} {insn : Insn} {next : ℕ} → Stands chunk n p place insn next → (a x : ℕ) (rs : List Range)
+    → registers_of insn ≡ (a, 3 + x) ∷ rs → a + (3 + x) ≤ p.registers
+own_loop at a x rs e = let k = first_range at (a, 3 + x) rs e in grind (arith, nat_tests)
 
 pub stands_line : (chunk : ChunkOf) (n : ℕ) (p : ProtoOf) → IsSound chunk n p → (before : List Line) (l : Line) (after : List Line)
     → lines p.code ≡ before ++ l ∷ after → is_capture l.insn ≡ false → Stands chunk n p l.place l.insn l.next

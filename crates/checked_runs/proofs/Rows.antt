@@ -26,7 +26,7 @@ use Rattle.checked_runs.specs.Safe.{Sizes, IsMade, AreMade, IsRegister, IsLoop, 
 use Rattle.checked_runs.specs.Keeps.{LibraryKeeps}
 use Rattle.checked_runs.proofs.Elements.{each_or, each_set, each_reverse}
 use Rattle.checked_runs.proofs.Rules.{both, IsSound}
-use Rattle.checked_runs.proofs.Places.{three, Stands, goes_on, leads, leads_on}
+use Rattle.checked_runs.proofs.Places.{three, Stands, own_register, own_three, goes_on, leads, leads_on}
 use Rattle.checked_runs.proofs.Settings.{Setting, with_registers, with_values, with_frame, active, goes, held_made, value_made, values_made, set_keeps, gives}
 use Rattle.checked_runs.proofs.Effects.{jumps, branches, jumps_back, indexes, newindexes, calculates, compares, measures, decides, imports, list_made, calls, gives_results, prepares, iterates, calls_fast}
 use Rattle.checked_runs.proofs.Tables.{makes_table, stores_list, iteration_made}
@@ -74,15 +74,15 @@ module _ {chunk : ChunkOf} {z : Sizes} {p : ProtoOf} {f : Frame} {fs : List Fram
 
   -- ---- arithmetic with constants
 
-  by_constant : {insn : Insn} {next : ℕ} → (o : ArithOp) (to a k : ℕ) → At insn next → constants_of insn ≡ (pos k, AValue) ∷ [] → IsPlace p next
+  by_constant : {insn : Insn} {next : ℕ} → (o : ArithOp) (to a k : ℕ) → At insn next → constants_of insn ≡ (pos k, AValue) ∷ [] → to < p.registers → IsPlace p next
       → IsSafeMove chunk (with_constant (known chunk f.proto (pos k)) (λ v. calculate o (value_in f w a) v to next) f fs w)
-  by_constant {insn} {next} o to a k at e h =
-      valued (pos k) _ (only (pos k, AValue) at e) (λ v m. calculates s o (value_in f w a) v to next (here_made a) m h)
+  by_constant {insn} {next} o to a k at e r h =
+      valued (pos k) _ (only (pos k, AValue) at e) (λ v m. calculates s o (value_in f w a) v to next (here_made a) m r h)
 
-  of_constant : {insn : Insn} {next : ℕ} → (o : ArithOp) (to k b : ℕ) → At insn next → constants_of insn ≡ (pos k, AValue) ∷ [] → IsPlace p next
+  of_constant : {insn : Insn} {next : ℕ} → (o : ArithOp) (to k b : ℕ) → At insn next → constants_of insn ≡ (pos k, AValue) ∷ [] → to < p.registers → IsPlace p next
       → IsSafeMove chunk (with_constant (known chunk f.proto (pos k)) (λ v. calculate o v (value_in f w b) to next) f fs w)
-  of_constant {insn} {next} o to k b at e h =
-      valued (pos k) _ (only (pos k, AValue) at e) (λ v m. calculates s o v (value_in f w b) to next m (here_made b) h)
+  of_constant {insn} {next} o to k b at e r h =
+      valued (pos k) _ (only (pos k, AValue) at e) (λ v m. calculates s o v (value_in f w b) to next m (here_made b) r h)
 
   -- ---- fast calls
 
@@ -120,11 +120,11 @@ module _ {chunk : ChunkOf} {z : Sizes} {p : ProtoOf} {f : Frame} {fs : List Fram
       (each_set (IsMade z.functions) w.objects.cells (cell_up f u) (value_in f w from) s.world.values (here_made from)) in
       goes (record { world = world; frame = s.frame; below = s.below; waits = s.waits; stacked = s.stacked }) next h
 
-  calls_name : (to object next : ℕ) (x : Bytes) → IsPlace p next
+  calls_name : (to object next : ℕ) (x : Bytes) → to < p.registers → IsPlace p next
       → IsSafeMove chunk (on (index (value_in f w object) (Text x) to next) (states.set (to + 1) (value_in f w object) (inside f w)) fs)
-  calls_name to object next x h =
+  calls_name to object next x r h =
       indexes (set_keeps (to + 1) (value_in f w object) (inside f w) fs s (here_made object)) (value_in f w object) (Text x) to next
-      (here_made object) tt h
+      (here_made object) tt r h
 
   charges : (insn : Insn) (next : ℕ) → At insn next → is_loop insn ≡ true → IsSafe chunk (state Charged f fs w)
   charges insn next at l = record {
@@ -146,9 +146,9 @@ module _ {chunk : ChunkOf} {z : Sizes} {p : ProtoOf} {f : Frame} {fs : List Fram
   leading_to : {insn : Insn} {next : ℕ} → At insn next → (by : ℤ) → jump_of insn ≡ Some by → LeadsTo p f.place by
   leading_to {insn} {next} at by a = leads chunk f.proto p f.place insn next sound at by a
 
-  operands_made : (a b next : ℕ) → nat_lt a b ≡ true → IsPlace p next → (to : ℕ)
+  operands_made : (a b next : ℕ) → nat_lt a b ≡ true → IsPlace p next → (to : ℕ) → to < p.registers
       → IsSafe chunk (state (Join (reverse (values_in f w a (b + 1 - a))) to next) f fs w)
-  operands_made a b next l h to =
+  operands_made a b next l h to r =
       let below : a < b = grind (arith, nat_tests) in
       let count : b + 1 - a ≡ suc (b - a) = omega arith in
       let some : is_some_value (reverse (values_in f w a (b + 1 - a))) ≡ true =
@@ -158,7 +158,7 @@ module _ {chunk : ChunkOf} {z : Sizes} {p : ProtoOf} {f : Frame} {fs : List Fram
         sizes = z;
         world = s.world;
         doing =
-            (each_reverse (IsMade z.functions) (values_in f w a (b + 1 - a)) (values_made s a (b + 1 - a)), some, active (λ p f. IsPlace p next) s h);
+            (each_reverse (IsMade z.functions) (values_in f w a (b + 1 - a)) (values_made s a (b + 1 - a)), some, active (λ p f. (to < p.registers) × IsPlace p next) s (r, h));
       }
 
   no_operation : (n : ℤ) (next : ℕ) → At (Nop n) next → Safe (Nop n) next
@@ -181,7 +181,8 @@ module _ {chunk : ChunkOf} {z : Sizes} {p : ProtoOf} {f : Frame} {fs : List Fram
   loads_import to k word next at =
       let i =
       path_known chunk f.proto word k (constant_found chunk f.proto p s.frame.code sound k (AnImport word) (only (k, AnImport word) at refl)) in
-      imports s (is_safe f w) (import_at f w k) (path_of chunk f.proto word) i.names to next (import_made k) i.is (behind at refl refl)
+      imports s (is_safe f w) (import_at f w k) (path_of chunk f.proto word) i.names to next (import_made k) i.is i.few (own_register at to _ refl)
+      (behind at refl refl)
 
   jumps_by : (b : Bool) (by : ℤ) (next : ℕ) (insn : Insn) → At insn next → jump_of insn ≡ Some by → goes_back insn ≡ false → is_end insn ≡ false
       → is_closure_or_capture insn ≡ false
@@ -194,9 +195,9 @@ module _ {chunk : ChunkOf} {z : Sizes} {p : ProtoOf} {f : Frame} {fs : List Fram
   compares_by o a b taken by next insn at c d e g =
       compares s o (value_in f w a) (value_in f w b) taken by next (here_made a) (here_made b) (ahead at by c d) (behind at e g)
 
-  calculates_by : (o : ArithOp) (to a b next : ℕ) (insn : Insn) → At insn next → is_end insn ≡ false → is_closure_or_capture insn ≡ false
+  calculates_by : (o : ArithOp) (to a b next : ℕ) (insn : Insn) → At insn next → is_end insn ≡ false → is_closure_or_capture insn ≡ false → to < p.registers
       → IsSafeMove chunk (calculate o (value_in f w a) (value_in f w b) to next f fs w)
-  calculates_by o to a b next insn at e g = calculates s o (value_in f w a) (value_in f w b) to next (here_made a) (here_made b) (behind at e g)
+  calculates_by o to a b next insn at e g r = calculates s o (value_in f w a) (value_in f w b) to next (here_made a) (here_made b) r (behind at e g)
 
   jumps_equal : (k : ℕ) (x from : ℕ) (by : ℤ) (next : ℕ) (insn : Insn) → At insn next → IsKnown chunk f.proto (pos k) → jump_of insn ≡ Some by
       → goes_back insn ≡ false
@@ -214,7 +215,7 @@ module _ {chunk : ChunkOf} {z : Sizes} {p : ProtoOf} {f : Frame} {fs : List Fram
   row_safe (LoadK to k) next at = valued k _ (only (k, AValue) at refl) (λ v m. gives s to v next m (behind at refl refl))
   row_safe (Move to from) next at = gives s to (value_in f w from) next (here_made from) (behind at refl refl)
   row_safe (GetGlobal to k) next at =
-      named k _ (only (pos k, AName) at refl) (λ x. indexes s (Table (environment_here f w)) (Text x) to next tt tt (behind at refl refl))
+      named k _ (only (pos k, AName) at refl) (λ x. indexes s (Table (environment_here f w)) (Text x) to next tt tt (own_register at to _ refl) (behind at refl refl))
   row_safe (SetGlobal from k) next at =
       named k _ (only (pos k, AName) at refl)
       (λ x. newindexes s (Table (environment_here f w)) (Text x) (value_in f w from) next tt tt (here_made from) (behind at refl refl))
@@ -224,20 +225,20 @@ module _ {chunk : ChunkOf} {z : Sizes} {p : ProtoOf} {f : Frame} {fs : List Fram
   row_safe (SetUpvalue from u) next at = sets_upvalue from u next (behind at refl refl)
   row_safe (CloseUpvalues from) next at = closes from next (behind at refl refl)
   row_safe (GetImport to k word) next at = loads_import to k word next at
-  row_safe (GetTable to t key) next at = indexes s (value_in f w t) (value_in f w key) to next (here_made t) (here_made key) (behind at refl refl)
+  row_safe (GetTable to t key) next at = indexes s (value_in f w t) (value_in f w key) to next (here_made t) (here_made key) (own_register at to _ refl) (behind at refl refl)
   row_safe (SetTable from t key) next at =
       newindexes s (value_in f w t) (value_in f w key) (value_in f w from) next (here_made t) (here_made key) (here_made from) (behind at refl refl)
   row_safe (GetTableKS to t k) next at =
-      named k _ (only (pos k, AName) at refl) (λ x. indexes s (value_in f w t) (Text x) to next (here_made t) tt (behind at refl refl))
+      named k _ (only (pos k, AName) at refl) (λ x. indexes s (value_in f w t) (Text x) to next (here_made t) tt (own_register at to _ refl) (behind at refl refl))
   row_safe (SetTableKS from t k) next at =
       named k _ (only (pos k, AName) at refl)
       (λ x. newindexes s (value_in f w t) (Text x) (value_in f w from) next (here_made t) tt (here_made from) (behind at refl refl))
-  row_safe (GetTableN to t n) next at = indexes s (value_in f w t) (Number (pos (n + 1))) to next (here_made t) tt (behind at refl refl)
+  row_safe (GetTableN to t n) next at = indexes s (value_in f w t) (Number (pos (n + 1))) to next (here_made t) tt (own_register at to _ refl) (behind at refl refl)
   row_safe (SetTableN from t n) next at =
       newindexes s (value_in f w t) (Number (pos (n + 1))) (value_in f w from) next (here_made t) tt (here_made from) (behind at refl refl)
   row_safe (NewClosure to d) next at = closes_over s sound to d next at
-  row_safe (NameCall to object k) next at = named k _ (only (pos k, AName) at refl) (λ x. calls_name to object next x (behind at refl refl))
-  row_safe (Call base arguments count) next at = calls s base arguments count next (behind at refl refl)
+  row_safe (NameCall to object k) next at = named k _ (only (pos k, AName) at refl) (λ x. calls_name to object next x (own_register at to _ refl) (behind at refl refl))
+  row_safe (Call base arguments count) next at = calls s base arguments count next (own_register at base _ refl) (behind at refl refl)
   row_safe (Return base count) next at = hands_back s (list_from count base f w) (list_made s count base)
   row_safe (Jump by) next at = jumps s f.place by (ahead at by refl refl)
   row_safe (JumpBack by) next at = jumps_back s by (leading_to at by refl)
@@ -249,22 +250,22 @@ module _ {chunk : ChunkOf} {z : Sizes} {p : ProtoOf} {f : Frame} {fs : List Fram
   row_safe (JumpIfNotEq a by b) next at = compares_by order.Eq a b false by next (JumpIfNotEq a by b) at refl refl refl refl
   row_safe (JumpIfNotLe a by b) next at = compares_by order.Le a b false by next (JumpIfNotLe a by b) at refl refl refl refl
   row_safe (JumpIfNotLt a by b) next at = compares_by order.Lt a b false by next (JumpIfNotLt a by b) at refl refl refl refl
-  row_safe (Add to a b) next at = calculates_by arithmetic.Add to a b next (Add to a b) at refl refl
-  row_safe (Sub to a b) next at = calculates_by arithmetic.Sub to a b next (Sub to a b) at refl refl
-  row_safe (Mul to a b) next at = calculates_by arithmetic.Mul to a b next (Mul to a b) at refl refl
-  row_safe (Div to a b) next at = calculates_by arithmetic.Div to a b next (Div to a b) at refl refl
-  row_safe (Mod to a b) next at = calculates_by arithmetic.Mod to a b next (Mod to a b) at refl refl
-  row_safe (Pow to a b) next at = calculates_by arithmetic.Pow to a b next (Pow to a b) at refl refl
-  row_safe (Idiv to a b) next at = calculates_by arithmetic.Idiv to a b next (Idiv to a b) at refl refl
-  row_safe (AddK to a k) next at = by_constant arithmetic.Add to a k at refl (behind at refl refl)
-  row_safe (SubK to a k) next at = by_constant arithmetic.Sub to a k at refl (behind at refl refl)
-  row_safe (MulK to a k) next at = by_constant arithmetic.Mul to a k at refl (behind at refl refl)
-  row_safe (DivK to a k) next at = by_constant arithmetic.Div to a k at refl (behind at refl refl)
-  row_safe (ModK to a k) next at = by_constant arithmetic.Mod to a k at refl (behind at refl refl)
-  row_safe (PowK to a k) next at = by_constant arithmetic.Pow to a k at refl (behind at refl refl)
-  row_safe (IdivK to a k) next at = by_constant arithmetic.Idiv to a k at refl (behind at refl refl)
-  row_safe (SubRK to k b) next at = of_constant arithmetic.Sub to k b at refl (behind at refl refl)
-  row_safe (DivRK to k b) next at = of_constant arithmetic.Div to k b at refl (behind at refl refl)
+  row_safe (Add to a b) next at = calculates_by arithmetic.Add to a b next (Add to a b) at refl refl (own_register at to _ refl)
+  row_safe (Sub to a b) next at = calculates_by arithmetic.Sub to a b next (Sub to a b) at refl refl (own_register at to _ refl)
+  row_safe (Mul to a b) next at = calculates_by arithmetic.Mul to a b next (Mul to a b) at refl refl (own_register at to _ refl)
+  row_safe (Div to a b) next at = calculates_by arithmetic.Div to a b next (Div to a b) at refl refl (own_register at to _ refl)
+  row_safe (Mod to a b) next at = calculates_by arithmetic.Mod to a b next (Mod to a b) at refl refl (own_register at to _ refl)
+  row_safe (Pow to a b) next at = calculates_by arithmetic.Pow to a b next (Pow to a b) at refl refl (own_register at to _ refl)
+  row_safe (Idiv to a b) next at = calculates_by arithmetic.Idiv to a b next (Idiv to a b) at refl refl (own_register at to _ refl)
+  row_safe (AddK to a k) next at = by_constant arithmetic.Add to a k at refl (own_register at to _ refl) (behind at refl refl)
+  row_safe (SubK to a k) next at = by_constant arithmetic.Sub to a k at refl (own_register at to _ refl) (behind at refl refl)
+  row_safe (MulK to a k) next at = by_constant arithmetic.Mul to a k at refl (own_register at to _ refl) (behind at refl refl)
+  row_safe (DivK to a k) next at = by_constant arithmetic.Div to a k at refl (own_register at to _ refl) (behind at refl refl)
+  row_safe (ModK to a k) next at = by_constant arithmetic.Mod to a k at refl (own_register at to _ refl) (behind at refl refl)
+  row_safe (PowK to a k) next at = by_constant arithmetic.Pow to a k at refl (own_register at to _ refl) (behind at refl refl)
+  row_safe (IdivK to a k) next at = by_constant arithmetic.Idiv to a k at refl (own_register at to _ refl) (behind at refl refl)
+  row_safe (SubRK to k b) next at = of_constant arithmetic.Sub to k b at refl (own_register at to _ refl) (behind at refl refl)
+  row_safe (DivRK to k b) next at = of_constant arithmetic.Div to k b at refl (own_register at to _ refl) (behind at refl refl)
   row_safe (And to a b) next at =
       decides s (is_true (value_in f w a)) (value_in f w b) (value_in f w a) to next (here_made b) (here_made a) (behind at refl refl)
   row_safe (Or to a b) next at =
@@ -275,11 +276,11 @@ module _ {chunk : ChunkOf} {z : Sizes} {p : ProtoOf} {f : Frame} {fs : List Fram
   row_safe (OrK to a k) next at =
       valued (pos k) _ (only (pos k, AValue) at refl)
       (λ v m. decides s (is_true (value_in f w a)) (value_in f w a) v to next (here_made a) m (behind at refl refl))
-  row_safe (Concat to a b) next at = operands_made a b next (both _ (nat_lt a b) at.rules.registers).1 (behind at refl refl) to
+  row_safe (Concat to a b) next at = operands_made a b next (both _ (nat_lt a b) at.rules.registers).1 (behind at refl refl) to (own_register at to _ refl)
   row_safe (Not to from) next at = gives s to (Boolean (not (is_true (value_in f w from)))) next tt (behind at refl refl)
   row_safe (Minus to from) next at =
-      calculates s arithmetic.Unm (value_in f w from) (value_in f w from) to next (here_made from) (here_made from) (behind at refl refl)
-  row_safe (Length to from) next at = measures s (value_in f w from) to next (here_made from) (behind at refl refl)
+      calculates s arithmetic.Unm (value_in f w from) (value_in f w from) to next (here_made from) (here_made from) (own_register at to _ refl) (behind at refl refl)
+  row_safe (Length to from) next at = measures s (value_in f w from) to next (here_made from) (own_register at to _ refl) (behind at refl refl)
   row_safe (NewTable to) next at = makes_table s to next (behind at refl refl)
   row_safe (SetList t from count key) next at =
       stores_list s (value_in f w t) key (list_from count from f w) next (list_made s count from) (behind at refl refl)
@@ -288,7 +289,7 @@ module _ {chunk : ChunkOf} {z : Sizes} {p : ProtoOf} {f : Frame} {fs : List Fram
   row_safe (ForGPrep a by) next at =
       iterates s (iteration (store_of w) (value_in f w a) (value_in f w (a + 1)) (value_in f w (a + 2))) a by
       (iteration_made s (value_in f w a) (value_in f w (a + 1)) (value_in f w (a + 2)) (here_made a) (here_made (a + 1)) (here_made (a + 2)))
-      (ahead at by refl refl)
+      (own_three at a _ refl) (ahead at by refl refl)
   row_safe (ForGLoop a by x) next at = charges (ForGLoop a by x) next at refl
   row_safe (GetVarargs to count) next at = gives_results s to count next f.varargs s.frame.varargs (behind at refl refl)
   row_safe (PrepVarargs parameters) next at = goes s next (behind at refl refl)

@@ -19,7 +19,7 @@ use Rattle.checked_runs.specs.Keeps.{LibraryKeeps}
 use Rattle.checked_runs.specs.Laws.{StepsStaySafe}
 use Rattle.checked_runs.proofs.Library.{library_keeps}
 use Rattle.checked_runs.proofs.Rules.{IsSound, proto_sound}
-use Rattle.checked_runs.proofs.Places.{Stands, stands_at, goes_on, leads}
+use Rattle.checked_runs.proofs.Places.{Stands, own_loop, stands_at, goes_on, leads}
 use Rattle.checked_runs.proofs.Settings.{Setting}
 use Rattle.checked_runs.proofs.Effects.{joins, follows_names, receives, adds, asks_generator}
 use Rattle.checked_runs.proofs.Rows.{row_safe}
@@ -108,7 +108,7 @@ module _ {chunk : ChunkOf} (well : IsWellFormed chunk) (library : LibraryKeeps) 
       adds s (bounds_in f w a) a by next (leads chunk f.proto p f.place (ForNLoop a by) next sound at by refl)
       (goes_on chunk f.proto p f.place (ForNLoop a by) next sound at refl refl)
   charged_safe p f fs s sound (ForGLoop a by x) next e at =
-      asks_generator s a x by next (leads chunk f.proto p f.place (ForGLoop a by x) next sound at by refl)
+      asks_generator s a x by next (own_loop at a x _ refl) (leads chunk f.proto p f.place (ForGLoop a by x) next sound at by refl)
       (goes_on chunk f.proto p f.place (ForGLoop a by x) next sound at refl refl)
   charged_safe p f fs s sound insn next e at = absurd cc
 
@@ -130,9 +130,9 @@ module _ {chunk : ChunkOf} (well : IsWellFormed chunk) (library : LibraryKeeps) 
   moves_safe Run fs d = within Run fs d (runs d.code d.frame d.below (setting_of d) d.holds)
   moves_safe Charged fs d = within Charged fs d (goes_round d.code d.frame d.below (setting_of d) d.holds)
   moves_safe (GiveAll vs) fs d = let a = d.1 in within (GiveAll vs) fs a (receives (setting_of a) a.frame.purpose vs d.0 a.holds)
-  moves_safe (Join vs to next) fs d = let a = d.2 in within (Join vs to next) fs a (joins (setting_of a) vs to next d.0 d.1 a.holds)
+  moves_safe (Join vs to next) fs d = let a = d.2 in within (Join vs to next) fs a (joins (setting_of a) vs to next d.0 d.1 a.holds.0 a.holds.1)
   moves_safe (Follow base names to next) fs d =
-      let a = d.1 in within (Follow base names to next) fs a (follows_names (setting_of a) base names to next d.0 a.holds)
+      let a = d.1 in within (Follow base names to next) fs a (follows_names (setting_of a) base names to next d.0 a.holds.0 a.holds.1 a.holds.2)
   moves_safe (Invoke by g vs) fs d = calls_value well library fs by g vs d.0 d.1 world d.2
   moves_safe (Hand vs) fs d = hands (is_function (innermost w.waits (store_of w))) vs fs refl d.0 d.1
   moves_safe (Fault e) fs d = record { sizes = z; world = world; doing = (tt, d) }

@@ -1,5 +1,5 @@
 -- The states that well-formed code comes to.
-use Rattle.std.specs.Prelude.{◌≡◌, ℕ, ◌<◌, ◌≤◌, Bool, true, false, nat_eq, List, [], ◌∷◌, length, Option, Some, MatchOption}
+use Rattle.std.specs.Prelude.{◌≡◌, ℕ, ◌+◌, ◌<◌, ◌≤◌, Bool, true, false, nat_eq, List, [], ◌∷◌, length, Option, Some, MatchOption}
 use Rattle.value_model.specs.Values.{Value, Closure, Wrap, Thread}
 use Rattle.value_model.specs.Store.{TableOf, CoroutineOf, Store, here}
 use Rattle.value_model.specs.CoroutineRows.{coroutine_of}
@@ -80,17 +80,17 @@ pub record IsFrame (chunk : ChunkOf) (z : Sizes) (p : ProtoOf) (f : Frame) : Typ
   pub registers : (r : ℕ) → IsRegister z (f.registers r)
   pub stands : IsPlace p f.place
 
--- the places to which it goes on with what it waits for
+-- the registers that are given what it waits for are its own, and the places to which it goes on then
 abbrev pub Awaits : ProtoOf → (functions place : ℕ) → Purpose → Type 0
 Awaits p n place Idle = ⊥
-Awaits p n place (Results to count next) = IsPlace p next
-Awaits p n place (Into to next) = IsPlace p next
+Awaits p n place (Results to count next) = (to < p.registers) × IsPlace p next
+Awaits p n place (Into to next) = (to < p.registers) × IsPlace p next
 Awaits p n place (Compares jumps by next) = LeadsOn p place by × IsPlace p next
-Awaits p n place (Joins before to next) = AreMade n before × IsPlace p next
-Awaits p n place (Follows names to next) = IsPlace p next
+Awaits p n place (Joins before to next) = AreMade n before × (to < p.registers) × IsPlace p next
+Awaits p n place (Follows names to next) = (length names ≤ 3) × (to < p.registers) × IsPlace p next
 Awaits p n place (Stores next) = IsPlace p next
-Awaits p n place (Begins base by) = LeadsOn p place by
-Awaits p n place (Turns base variables by next) = LeadsTo p place by × IsPlace p next
+Awaits p n place (Begins base by) = (base + 2 < p.registers) × LeadsOn p place by
+Awaits p n place (Turns base variables by next) = (base + (3 + variables) ≤ p.registers) × LeadsTo p place by × IsPlace p next
 
 pub record IsWaiting (chunk : ChunkOf) (z : Sizes) (f : Frame) : Type 0 where
   pub code : ProtoOf
@@ -177,9 +177,9 @@ AreDoing chunk z Charged ws fs = IsActive chunk z (λ p f. IsLoop p f.place) ws 
 AreDoing chunk z (GiveAll vs) ws fs =
     AreMade z.functions vs × IsActive chunk z (λ p f. Awaits p z.functions f.place f.purpose) ws fs
 AreDoing chunk z (Join vs to next) ws fs =
-    AreMade z.functions vs × (is_some_value vs ≡ true) × IsActive chunk z (λ p f. IsPlace p next) ws fs
+    AreMade z.functions vs × (is_some_value vs ≡ true) × IsActive chunk z (λ p f. (to < p.registers) × IsPlace p next) ws fs
 AreDoing chunk z (Follow base names to next) ws fs =
-    IsMade z.functions base × IsActive chunk z (λ p f. IsPlace p next) ws fs
+    IsMade z.functions base × IsActive chunk z (λ p f. (length names ≤ 3) × (to < p.registers) × IsPlace p next) ws fs
 AreDoing chunk z (Invoke by callee args) ws fs =
     IsMade z.functions callee × AreMade z.functions args × AreStacked chunk z ws fs
 AreDoing chunk z (Hand vs) ws fs = AreMade z.functions vs × AreStacked chunk z ws fs
