@@ -102,15 +102,15 @@ pub runs_on : (w w' : LibWorld) → Keeps w w' → here (store_in w') ≡ here (
 unfolding parts.store_of
 runs_on w w' keeps = ap (λ r. place_of_running (option_map place_of_thread r)) keeps.arena.running
 
-pub leads_of : (m : Step) (a : LibAnswer) (given : List Value) (w : LibWorld) (code : Code) (s : StackView) (replies : List Reply) (fs : List Frame) (u : World) →
-    ((x : Focus) → part w code s x replies ≡ record { focus = x; functions = fs; world = u }) → m ≡ led_to w.names a given fs u → Leads m a given w code s replies
-leads_of m Values given w code s replies fs u is e = e ∙ sym (ap (λ t. Goes [] t) (is (Hand (map (meant w.names) given))))
-leads_of m (Print line) given w code s replies fs u is e = e ∙ sym (ap (λ t. Shows [] (event.Print line) t) (is (Hand [])))
-leads_of m (RunError r) given w code s replies fs u is e = e ∙ sym (ap (λ t. Goes [] t) (is (Fault (meant_error w.names r))))
-leads_of m (Raise v) given w code s replies fs u is e = e ∙ sym (ap (λ t. Goes [] t) (is (machine.Raise (meant w.names v))))
-leads_of m (Stop stop) given w code s replies fs u is e = e
-leads_of m (CallBack f args then) given w code s replies fs u is e =
-    e ∙ sym (ap (λ t. Goes [] (awaited (Asks (meant_continue w.names then)) t)) (is (Invoke ByLibrary (meant w.names f) (map (meant w.names) args.items))))
+pub leads_of : (m : Step) (a : LibAnswer) (given : List Value) (w : LibWorld) (code : Code) (s : StackView) (replies : List Reply) (fs : List Frame) (u : World) (before after : Store) →
+    ((x : Focus) → part w code s x replies ≡ record { focus = x; functions = fs; world = u }) → Stays a given before after → m ≡ led_to w.names a given fs u → Leads m a given w code s replies
+leads_of m Values given w code s replies fs u before after is stays e = e ∙ sym (ap (λ t. Goes [] t) (is (Hand (map (meant w.names) given))))
+leads_of m (Print line) given w code s replies fs u before after is stays e = (stays.0, e ∙ sym (ap (λ t. Shows [] (event.Print line) t) (is (Hand []))))
+leads_of m (RunError r) given w code s replies fs u before after is stays e = (stays.0, e ∙ sym (ap (λ t. Goes [] t) (is (Fault (meant_error w.names r)))))
+leads_of m (Raise v) given w code s replies fs u before after is stays e = (stays.0, e ∙ sym (ap (λ t. Goes [] t) (is (machine.Raise (meant w.names v)))))
+leads_of m (Stop stop) given w code s replies fs u before after is stays e = (stays.0, e)
+leads_of m (CallBack f args then) given w code s replies fs u before after is stays e =
+    (stays.0, e ∙ sym (ap (λ t. Goes [] (awaited (Asks (meant_continue w.names then)) t)) (is (Invoke ByLibrary (meant w.names f) (map (meant w.names) args.items)))))
 
 -- a function that the library answers closes no coroutine
 not_closed : (f : Builtin) (vs : List m.Value) (st : Store) (w : World) → is_library f ≡ true → without_closed (Called ByScript (m.Native f) vs) st w ≡ w
@@ -125,8 +125,8 @@ led_call chunk w w' code s replies f vs rs rs' a is keeps sound known h =
     let fs : List Frame = t.functions in
     let u : World = t.world in
     let row = lib f vs (store_in w) in
-    leads_of (step chunk (part w code s (Invoke ByScript (m.Native f) vs) replies)) a h.given w' code s replies fs (with_store (store_in w') u)
-    (λ x. part_kept w w' code s x replies keeps sound (knows w code s sound known))
+    leads_of (step chunk (part w code s (Invoke ByScript (m.Native f) vs) replies)) a h.given w' code s replies fs (with_store (store_in w') u) (store_in w) (store_in w')
+    (λ x. part_kept w w' code s x replies keeps sound (knows w code s sound known)) h.stays
     (ap (λ v. decided chunk (by_library row u.waits (store_of u)) fs v) (not_closed f vs (by_library row u.waits (store_of u)).store u is)
     ∙ ap (λ r. decided chunk (by_library r u.waits (store_of u)) fs u) (sym h.meant)
     ∙ decided_by chunk w'.names (raised_by f vs) h.given (store_in w') u.waits fs u (lists_there w w' s keeps) (runs_on w w' keeps) a h.stays)

@@ -1,5 +1,5 @@
 -- A library function that asked for a text goes on with it.
-use Rattle.std.proofs.Common.{◌≡◌, List, [], ◌∷◌, map, reverse, Option, Some, None, IsSomeAnd, refl, sym, ◌∙◌, ap}
+use Rattle.std.proofs.Common.{◌≡◌, List, [], ◌∷◌, map, reverse, Option, Some, None, IsSomeAnd, refl, sym, ◌∙◌, ap, subst}
 use Rattle.value_model.specs.Library as library
 use Rattle.value_model.specs.Parts.{meant}
 use Rattle.value_model.specs.Store.{here, place_of_running}
@@ -34,7 +34,7 @@ use Rattle.machine_world.specs.Functions.{wait_of, wait_in}
 use Rattle.machine_world.specs.Parts.{part, over, waits_in, Becomes}
 use Rattle.machine_world.specs.Sound.{IsMachine, IsLibrary, LibraryWaitsFor}
 use Rattle.machine_world.proofs.Calling.{reverse_last}
-use Rattle.machine_library.specs.Leads.{KnowsImports, Leads}
+use Rattle.machine_library.specs.Leads.{KnowsImports, Leads, IsText, WaitsForText}
 use Rattle.machine_library.proofs.Kept.{part_kept, knows}
 use Rattle.machine_library.proofs.Leading.{leads_of, decided_by, lists_there, runs_on}
 
@@ -63,6 +63,14 @@ place_none w s is = ap (λ r. place_of_running (option_map place_of_thread r)) i
 waiting_is : (w : LibWorld) (s : StackView) (rest : Continue) → IsMachine w s → LibraryWaitsFor s (Library rest) →
     waiting (waits_in w s.frames) (here (store_in w)) ≡ Asks (meant_continue w.names rest) ∷ map (wait_of w.names) (reverse (outer s))
 waiting_is w s rest is h = ap (waiting (waits_in w s.frames)) (place_none w s is) ∙ asks_last w s rest h
+
+-- one that waits so waits for a text
+pub waits_for_text : (s : StackView) (rest : Continue) → LibraryWaitsFor s (Library rest) → WaitsForText s
+waits_for_text s rest h = by (innermost s) h
+  where
+    by : (q : Option Frame) → IsSomeAnd q (λ (f : Frame). IsLibrary f × (f.kind ≡ Library rest)) → IsSomeAnd q (λ (f : Frame). IsLibrary f × IsText f.kind)
+    by None h = h
+    by (Some f) h = (h.0, subst IsText (sym h.1) tt)
 
 -- ---- the values come to it
 
@@ -101,8 +109,8 @@ led_on chunk w w1 w' code s s1 replies rest v values rs rs' a is waits names bec
     ap (λ l. library.go_on (meant_continue l rest) (meant w1.names v) (store_in w1)) names
     ∙ ap (λ x. library.go_on c x (store_in w1)) first_is
     ∙ ap (λ s. library.go_on c (first_value vs) s) st in
-    leads_of (step chunk (part w code s (Hand vs) replies)) a h.given w' code s1 replies fs1 (with_store (store_in w') u1)
-    (λ x. part_kept w1 w' code s1 x replies keeps sound (knows w1 code s1 sound known))
+    leads_of (step chunk (part w code s (Hand vs) replies)) a h.given w' code s1 replies fs1 (with_store (store_in w') u1) (store_in w1) (store_in w')
+    (λ x. part_kept w1 w' code s1 x replies keeps sound (knows w1 code s1 sound known)) h.stays
     (taken chunk (map (wait_of w.names) (reverse (outer s))) vs fs u c (waiting_is w s rest is waits)
     ∙ sym (ap (λ (t : State). decided chunk (by_library row t.world.waits (store_of t.world)) t.functions t.world) same)
     ∙ ap (λ r. decided chunk (by_library r u1.waits (store_of u1)) fs1 u1) (sym (h.meant ∙ row_is))

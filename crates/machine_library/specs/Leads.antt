@@ -42,15 +42,16 @@ stored st s = record s { world = with_store st s.world }
 
 -- ---- what is done next
 
--- A move comes to what is done next, with the values that were given, beside the state that the stack and the world then mean
+-- A move comes to what is done next, with the values that were given, beside the state that the stack and the world then mean. Where
+-- something else is done, none were
 abbrev pub LeadsTo : Step → Next → (given : List Value) → LibWorld → Code → StackView → List Reply → Type 0
 LeadsTo m Gives vs w code s replies = m ≡ Goes [] (part w code s (Hand (map (meant w.names) vs)) replies)
-LeadsTo m (Prints line) vs w code s replies = m ≡ Shows [] (event.Print line) (part w code s (Hand []) replies)
-LeadsTo m (Fails e) vs w code s replies = m ≡ Goes [] (part w code s (Fault (meant_error w.names e)) replies)
-LeadsTo m (Raises v) vs w code s replies = m ≡ Goes [] (part w code s (machine.Raise (meant w.names v)) replies)
-LeadsTo m (Stops stop) vs w code s replies = m ≡ Ends [] (Stopped stop)
+LeadsTo m (Prints line) vs w code s replies = (vs ≡ []) × (m ≡ Shows [] (event.Print line) (part w code s (Hand []) replies))
+LeadsTo m (Fails e) vs w code s replies = (vs ≡ []) × (m ≡ Goes [] (part w code s (Fault (meant_error w.names e)) replies))
+LeadsTo m (Raises v) vs w code s replies = (vs ≡ []) × (m ≡ Goes [] (part w code s (machine.Raise (meant w.names v)) replies))
+LeadsTo m (Stops stop) vs w code s replies = (vs ≡ []) × (m ≡ Ends [] (Stopped stop))
 LeadsTo m (Calls f args) vs w code s replies =
-    m ≡ Goes [] (part w code s (Invoke ByLibrary (meant w.names f) (map (meant w.names) args.items)) replies)
+    (vs ≡ []) × (m ≡ Goes [] (part w code s (Invoke ByLibrary (meant w.names f) (map (meant w.names) args.items)) replies))
 
 -- the script may use the values, and the texts that a run error shows have numbers
 abbrev pub IsNext : LibWorld → Next → Type 0
@@ -84,12 +85,12 @@ abbrev pub IsAsking : LibAnswer → Type 0
 IsAsking (CallBack f args then) = AsksForTexts then.builtin × (then.at < length then.args.items)
 IsAsking answer = Unit {0}
 
--- A move comes to what an answer says. Where it asks for a call, it waits in the state
+-- A move comes to what an answer says, in the same way. Where it asks for a call, it waits in the state
 abbrev pub Leads : Step → LibAnswer → (given : List Value) → LibWorld → Code → StackView → List Reply → Type 0
 Leads m Values vs w code s replies = m ≡ Goes [] (part w code s (Hand (map (meant w.names) vs)) replies)
-Leads m (Print line) vs w code s replies = m ≡ Shows [] (event.Print line) (part w code s (Hand []) replies)
-Leads m (RunError e) vs w code s replies = m ≡ Goes [] (part w code s (Fault (meant_error w.names e)) replies)
-Leads m (Raise v) vs w code s replies = m ≡ Goes [] (part w code s (machine.Raise (meant w.names v)) replies)
-Leads m (Stop stop) vs w code s replies = m ≡ Ends [] (Stopped stop)
+Leads m (Print line) vs w code s replies = (vs ≡ []) × (m ≡ Shows [] (event.Print line) (part w code s (Hand []) replies))
+Leads m (RunError e) vs w code s replies = (vs ≡ []) × (m ≡ Goes [] (part w code s (Fault (meant_error w.names e)) replies))
+Leads m (Raise v) vs w code s replies = (vs ≡ []) × (m ≡ Goes [] (part w code s (machine.Raise (meant w.names v)) replies))
+Leads m (Stop stop) vs w code s replies = (vs ≡ []) × (m ≡ Ends [] (Stopped stop))
 Leads m (CallBack f args then) vs w code s replies =
-    m ≡ Goes [] (awaited (Asks (meant_continue w.names then)) (part w code s (Invoke ByLibrary (meant w.names f) (map (meant w.names) args.items)) replies))
+    (vs ≡ []) × (m ≡ Goes [] (awaited (Asks (meant_continue w.names then)) (part w code s (Invoke ByLibrary (meant w.names f) (map (meant w.names) args.items)) replies)))

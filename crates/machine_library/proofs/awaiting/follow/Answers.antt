@@ -12,5 +12,7 @@ unfolding meant_continue
 returns-in_ok-await_library-in-CallBack-clause-leads c = λ m given replies h.
     let w = c.args.world.now in
     let k = c.args.machine.now in
-    subst (λ a. Leads m a given w k.code k.stack replies) c.in-CallBack.is h
-    ∙ sym (ap (λ (t : State). Goes [] t) (c.in_ok-await_library-in-CallBack.ensures.awaited (Invoke ByLibrary (meant w.names c.in-CallBack.callee) (map (meant w.names) c.in-CallBack.args.items)) replies))
+    let asks = subst (λ a. Leads m a given w k.code k.stack replies) c.in-CallBack.is h in (
+      asks.0,
+      asks.1 ∙ sym (ap (λ (t : State). Goes [] t) (c.in_ok-await_library-in-CallBack.ensures.awaited (Invoke ByLibrary (meant w.names c.in-CallBack.callee) (map (meant w.names) c.in-CallBack.args.items)) replies)),
+    )
