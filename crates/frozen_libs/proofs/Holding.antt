@@ -56,18 +56,23 @@ there_table ts t e h = subst (λ s. t.place < length (objects_of (arena_of ts) (
 
 -- ---- what is held
 
+put_unmarked : (t : TableView) (key v : Value) → (rule.put t key v).is_marked ≡ t.is_marked
+unfolding rule.put
+put_unmarked t key v = refl
+
 make_holds : (texts : List Bytes) (b : ArenaView) (vs : List TableView) (ms : List TableOf) → b ≡ arena_of vs → map (table_of texts) vs ≡ ms →
-    ((i : ℕ) → OfTable (IsShared texts (length ms)) (get_or vs i no_table)) → Holds texts b ms
-make_holds texts b vs ms e m h =
+    ((i : ℕ) → OfTable (IsShared texts (length ms)) (get_or vs i no_table)) → ((i : ℕ) → (get_or vs i no_table).is_marked ≡ false) → Holds texts b ms
+make_holds texts b vs ms e m h u =
     let inside : tables_in b ≡ vs = ap tables_in e in
     record {
       arena = e ∙ ap arena_of (sym inside);
       tables = ap (λ vs. map (table_of texts) vs) inside ∙ m;
       values = λ i. subst (λ vs. OfTable (IsShared texts (length ms)) (get_or vs i no_table)) (sym inside) (h i);
+      unmarked = λ i. subst (λ vs. (get_or vs i no_table).is_marked ≡ false) (sym inside) (u i);
     }
 
 pub nothing_held : (texts : List Bytes) (a : ArenaView) → a ≡ no_arena → Holds texts a []
-nothing_held texts a e = make_holds texts a [] [] e refl (λ i. record { entries = tt; meta = tt })
+nothing_held texts a e = make_holds texts a [] [] e refl (λ i. record { entries = tt; meta = tt }) (λ i. refl)
 
 module _ (texts : List Bytes) (a : ArenaView) (ms : List TableOf) (h : Holds texts a ms) where
   pub held_length : length (tables_in a) ≡ length ms
@@ -88,6 +93,7 @@ module _ (texts : List Bytes) (a : ArenaView) (ms : List TableOf) (h : Holds tex
       (λ j. table_on (IsShared texts (length ms)) (IsShared texts (length (ms ++ empty_table ∷ [])))
       (shared_more texts texts (length ms) (length (ms ++ empty_table ∷ [])) (extends_self texts) l)
       (get_or (tables_in a) j no_table) (h.values j)) i)
+      (λ i. each_pushed (λ (x : TableView). x.is_marked ≡ false) (tables_in a) refl h.unmarked i)
 
   -- ---- a table is read
 
@@ -105,14 +111,18 @@ module _ (texts : List Bytes) (a : ArenaView) (ms : List TableOf) (h : Holds tex
 
     -- ---- a table is changed
 
-    held_written : (v : TableView) (x : TableOf) → OfTable (IsShared texts (length ms)) v → table_of texts v ≡ x →
+    mark_at : (table_at a t).is_marked ≡ false
+    mark_at = ap (λ (x : TableView). x.is_marked) held_at ∙ h.unmarked t.place
+
+    held_written : (v : TableView) (x : TableOf) → OfTable (IsShared texts (length ms)) v → table_of texts v ≡ x → v.is_marked ≡ (table_at a t).is_marked →
         Holds texts (with_table a t v) (set ms t.place x)
-    held_written v x new e =
+    held_written v x new e mark =
         make_holds texts (with_table a t v) (set (tables_in a) t.place v) (set ms t.place x)
         (ap (λ a. with_table a t v) h.arena ∙ arena_written (tables_in a) t v own)
         (map-set (table_of texts) (tables_in a) t.place v ∙ ap (λ xs. set xs t.place (table_of texts v)) h.tables ∙ ap (λ y. set ms t.place y) e)
         (λ i. subst (λ n. OfTable (IsShared texts n) (get_or (set (tables_in a) t.place v) i no_table)) (sym (length-set ms t.place x))
         (each_set (OfTable (IsShared texts (length ms))) (tables_in a) t.place v new h.values i))
+        (λ i. each_set (λ (x : TableView). x.is_marked ≡ false) (tables_in a) t.place v (mark ∙ mark_at) h.unmarked i)
 
     pub held_put : (key v : Value) → AreDistinct texts → IsShared texts (length ms) key → IsShared texts (length ms) v →
         Holds texts (with_table a t (rule.put (table_at a t) key v))
@@ -125,11 +135,12 @@ module _ (texts : List Bytes) (a : ArenaView) (ms : List TableOf) (h : Holds tex
         (table_at a t) held_values)
         (shared_seen texts (length ms) (owner.Script 0) key k))
         ∙ ap (λ x. model.put x (meant texts key) (meant texts v)) held_table)
+        (put_unmarked (table_at a t) key v)
 
     pub held_fixed : Holds texts (with_table a t (record (table_at a t) { is_frozen = true })) (set ms t.place (fixed (get_or ms t.place empty_table)))
     held_fixed =
         held_written (record (table_at a t) { is_frozen = true }) (fixed (get_or ms t.place empty_table))
-        (record { entries = held_values.entries; meta = held_values.meta }) (ap fixed held_table)
+        (record { entries = held_values.entries; meta = held_values.meta }) (ap fixed held_table) refl
 
 -- ---- texts come
 
@@ -140,6 +151,7 @@ held_more texts more a ms e h =
       tables = tables_more texts more (length ms) e (tables_in a) h.values ∙ h.tables;
       values = λ i. table_on (IsShared texts (length ms)) (IsShared more (length ms))
           (shared_more texts more (length ms) (length ms) e (omega arith)) (get_or (tables_in a) i no_table) (h.values i);
+      unmarked = h.unmarked;
     }
 
 -- ---- tables that can be written

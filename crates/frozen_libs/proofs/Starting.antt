@@ -1,5 +1,5 @@
 -- Where a script starts from: what nobody owns.
-use Rattle.std.proofs.Common.{◌≡◌, ℕ, zero, suc, ◌<◌, ◌≤◌, inr, true, List, [], ◌∷◌, map, length, get_or, Option, Some, None, IfSome, sym, ◌∙◌, ap, subst, arith}
+use Rattle.std.proofs.Common.{◌≡◌, ℕ, zero, suc, ◌<◌, ◌≤◌, inr, true, false, List, [], ◌∷◌, map, length, get_or, Option, Some, None, IfSome, refl, sym, ◌∙◌, ap, subst, arith}
 use Rattle.std.specs.List.{AllByRecursion}
 use Rattle.std.specs.Prelude.{option_map}
 use Rattle.value_model.specs.Fresh.{Built, store_with}
@@ -26,8 +26,8 @@ use Rattle.luau_tables.specs.Globals.{globals_of}
 use Rattle.luau_tables.specs.Own.{AreTexts, HasText, HasTextsInTable, HasTexts, HasGlobals, SharesTables, IsOwn}
 use Rattle.luau_tables.specs.Part.{table_of, store_of, environment_of, coroutine_of, place_of_thread, IsScript, OfPairs, OfSome, OfTable}
 use Rattle.luau_tables.specs.declared.globals.Globals.{Globals}
-use Rattle.frozen_libs.specs.Frozen.{unowned, Starts}
-use Rattle.frozen_libs.specs.Made.{arena_of, tables_in, IsShared, IsBuilt}
+use Rattle.frozen_libs.specs.Frozen.{unowned, Starts, IsUnowned}
+use Rattle.frozen_libs.specs.Made.{arena_of, tables_in, IsShared, Holds, IsBuilt}
 use Rattle.frozen_libs.proofs.Holding.{held_length, held_table, table_there, there_table}
 use Rattle.frozen_libs.proofs.Shared.{table_texts}
 
@@ -197,3 +197,21 @@ module _ (texts : List Bytes) (g : Globals) (a : ArenaView) (b : Built) (h : IsB
 
   pub built_starts : AreTexts texts → Starts texts g a (store_with b)
   built_starts interned = record { part = built_part; own = built_own interned }
+
+-- no script owns anything, and no table is marked
+unowned_of : (vs : List TableView) → ((i : ℕ) → (get_or vs i no_table).is_marked ≡ false) → IsUnowned (arena_of vs)
+unfolding table_at
+unowned_of vs u =
+    record {
+      scripts = λ w is. script_objects w is;
+      cells = refl;
+      running = refl;
+      unmarked = λ t. bare vs (λ o. (get_or o.tables t.place no_table).is_marked ≡ false) (u t.place) refl (wide t.owner);
+    }
+  where
+    script_objects : (w : Owner) → IsScript w → objects_of (arena_of vs) w ≡ no_objects
+    script_objects owner.Frozen is = elim is [ ]
+    script_objects (owner.Script n) is = scripts_objects vs n
+
+pub unowned_after : (texts : List Bytes) (a : ArenaView) (ts : List TableOf) → Holds texts a ts → IsUnowned a
+unowned_after texts a ts h = subst IsUnowned (sym h.arena) (unowned_of (tables_in a) h.unmarked)

@@ -43,6 +43,7 @@ pub record Holds (texts : List Bytes) (a : ArenaView) (ts : List TableOf) : Type
   pub arena : a ≡ arena_of (tables_in a)
   pub tables : map (table_of texts) (tables_in a) ≡ ts
   pub values : (i : ℕ) → OfTable (IsShared texts (length ts)) (slice_index_or (tables_in a) i no_table)
+  pub unmarked : (i : ℕ) → (slice_index_or (tables_in a) i no_table).is_marked ≡ false
 
 -- a table that nobody owns and that can be written
 pub record IsOpen (a : ArenaView) (t : TableId) : Type 0 where

@@ -1,7 +1,7 @@
 //! All that is made.
 
 ghost use Rattle.std.specs.Prelude.{◌≡◌, IfErr, IfOk, Ok};
-ghost use Rattle.frozen_libs.specs.Frozen.{Starts};
+ghost use Rattle.frozen_libs.specs.Frozen.{Starts, IsUnowned};
 ghost use Rattle.frozen_libs.specs.HostForm.{host_form};
 ghost use Rattle.frozen_libs.specs.Refusals.{IsRefusal};
 ghost use Rattle.luau_tables.specs.Own.{AreTexts};
@@ -23,7 +23,7 @@ use value_arena::Arena;
 ///
 /// `host` is the tree of the host file, whose texts are numbered by `names`. So far it is one without names, `return {}`.
 ///
-/// A script that owns nothing yet then sees what the definition of a script's start says, and can come to nothing but what it owns and what
+/// No script owns anything then, no table is marked and no coroutine runs. A script that owns nothing yet sees what the definition of a script's start says, and can come to nothing but what it owns and what
 /// nobody owns. After a refusal nothing is known of the arena. The interner gains texts, and those that it held keep their numbers.
 pub fn build(
     alloc: Global,
@@ -35,6 +35,7 @@ pub fn build(
     requires texts { AreTexts names.old }
     requires host { (host_form names.old _host.now).top ≡ Ok NoField }
     ensures starts { (fields : HostFields) → (host_form names.old _host.now).top ≡ Ok fields → IfOk result (λ g. Starts names.new g arena.new (fresh fields)) }
+    ensures unowned { IfOk result (λ _. IsUnowned arena.new) }
     ensures refusal { IfErr result (IsRefusal names.old _host.now) }
     ensures extends { Extends names.old names.new }
     ensures texts { AreTexts names.new }

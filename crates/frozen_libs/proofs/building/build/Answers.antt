@@ -4,7 +4,7 @@ use Rattle.value_model.specs.declared.ids.TableId.{TableId}
 use Rattle.frozen_libs.specs.Frozen.{Starts}
 use Rattle.frozen_libs.specs.HostForm.{host_form}
 use Rattle.frozen_libs.specs.Made.{IsBuilt, Holds}
-use Rattle.frozen_libs.proofs.Starting.{built_starts}
+use Rattle.frozen_libs.proofs.Starting.{built_starts, unowned_after}
 use Rattle.frozen_libs.proofs.StandardTables.{frozen_is, all_frozen}
 use Rattle.frozen_libs.proofs.building.build.Goals as goal
 
@@ -24,3 +24,8 @@ returns-clause-starts c fields e =
     record { holds = held; table = made.table; string_meta = made.string_meta; names = made.names; paths = made.paths; hosts = made.hosts } in
     subst (λ fields. Starts texts g c.freeze.new.arena (fresh fields)) (none_given (host_form c.args.names.now c.args._host.now).top fields c.requires.host e)
     (built_starts texts g c.freeze.new.arena (built NoField) all (omega arith) all_frozen c.standard.ensures.texts)
+
+pub returns-clause-unowned : goal.returns-clause-unowned
+returns-clause-unowned c =
+    let made = c.in_ok-globals.ensures.built in
+    unowned_after c.standard.new.names c.freeze.new.arena _ (c.freeze.ensures c.standard.new.names standard.tables made.holds)
