@@ -27,45 +27,330 @@ pub record Same (i j : Instruction) : Type 0 where
   pub prep : is_any_prep i ≡ is_any_prep j
 
 pub itself : (i : Instruction) → Same i i
-itself i = record { own = refl; known = refl; wants = refl; registers = refl; upvalue = refl; closure = refl; capture = refl; reads = refl; sets = refl; fast = refl; back = refl; skip = refl; load = refl; prep = refl }
+itself i = record {
+  own = refl;
+  known = refl;
+  wants = refl;
+  registers = refl;
+  upvalue = refl;
+  closure = refl;
+  capture = refl;
+  reads = refl;
+  sets = refl;
+  fast = refl;
+  back = refl;
+  skip = refl;
+  load = refl;
+  prep = refl;
+}
 
 pub same_jump : (i : Instruction) (by : ℤ) → IsTrue (is_jump i) → Same (jumping i by) i
 same_jump (Jump z) by jump =
-    record { own = refl; known = refl; wants = refl; registers = refl; upvalue = refl; closure = refl; capture = refl; reads = refl; sets = refl; fast = refl; back = refl; skip = refl; load = refl; prep = refl }
+    record {
+      own = refl;
+      known = refl;
+      wants = refl;
+      registers = refl;
+      upvalue = refl;
+      closure = refl;
+      capture = refl;
+      reads = refl;
+      sets = refl;
+      fast = refl;
+      back = refl;
+      skip = refl;
+      load = refl;
+      prep = refl;
+    }
 same_jump (JumpBack z) by jump =
-    record { own = refl; known = refl; wants = refl; registers = refl; upvalue = refl; closure = refl; capture = refl; reads = refl; sets = refl; fast = refl; back = refl; skip = refl; load = refl; prep = refl }
+    record {
+      own = refl;
+      known = refl;
+      wants = refl;
+      registers = refl;
+      upvalue = refl;
+      closure = refl;
+      capture = refl;
+      reads = refl;
+      sets = refl;
+      fast = refl;
+      back = refl;
+      skip = refl;
+      load = refl;
+      prep = refl;
+    }
 same_jump (JumpIf value z) by jump =
-    record { own = refl; known = refl; wants = refl; registers = refl; upvalue = refl; closure = refl; capture = refl; reads = refl; sets = refl; fast = refl; back = refl; skip = refl; load = refl; prep = refl }
+    record {
+      own = refl;
+      known = refl;
+      wants = refl;
+      registers = refl;
+      upvalue = refl;
+      closure = refl;
+      capture = refl;
+      reads = refl;
+      sets = refl;
+      fast = refl;
+      back = refl;
+      skip = refl;
+      load = refl;
+      prep = refl;
+    }
 same_jump (JumpIfNot value z) by jump =
-    record { own = refl; known = refl; wants = refl; registers = refl; upvalue = refl; closure = refl; capture = refl; reads = refl; sets = refl; fast = refl; back = refl; skip = refl; load = refl; prep = refl }
+    record {
+      own = refl;
+      known = refl;
+      wants = refl;
+      registers = refl;
+      upvalue = refl;
+      closure = refl;
+      capture = refl;
+      reads = refl;
+      sets = refl;
+      fast = refl;
+      back = refl;
+      skip = refl;
+      load = refl;
+      prep = refl;
+    }
 same_jump (JumpIfEq left z right) by jump =
-    record { own = refl; known = refl; wants = refl; registers = refl; upvalue = refl; closure = refl; capture = refl; reads = refl; sets = refl; fast = refl; back = refl; skip = refl; load = refl; prep = refl }
+    record {
+      own = refl;
+      known = refl;
+      wants = refl;
+      registers = refl;
+      upvalue = refl;
+      closure = refl;
+      capture = refl;
+      reads = refl;
+      sets = refl;
+      fast = refl;
+      back = refl;
+      skip = refl;
+      load = refl;
+      prep = refl;
+    }
 same_jump (JumpIfLe left z right) by jump =
-    record { own = refl; known = refl; wants = refl; registers = refl; upvalue = refl; closure = refl; capture = refl; reads = refl; sets = refl; fast = refl; back = refl; skip = refl; load = refl; prep = refl }
+    record {
+      own = refl;
+      known = refl;
+      wants = refl;
+      registers = refl;
+      upvalue = refl;
+      closure = refl;
+      capture = refl;
+      reads = refl;
+      sets = refl;
+      fast = refl;
+      back = refl;
+      skip = refl;
+      load = refl;
+      prep = refl;
+    }
 same_jump (JumpIfLt left z right) by jump =
-    record { own = refl; known = refl; wants = refl; registers = refl; upvalue = refl; closure = refl; capture = refl; reads = refl; sets = refl; fast = refl; back = refl; skip = refl; load = refl; prep = refl }
+    record {
+      own = refl;
+      known = refl;
+      wants = refl;
+      registers = refl;
+      upvalue = refl;
+      closure = refl;
+      capture = refl;
+      reads = refl;
+      sets = refl;
+      fast = refl;
+      back = refl;
+      skip = refl;
+      load = refl;
+      prep = refl;
+    }
 same_jump (JumpIfNotEq left z right) by jump =
-    record { own = refl; known = refl; wants = refl; registers = refl; upvalue = refl; closure = refl; capture = refl; reads = refl; sets = refl; fast = refl; back = refl; skip = refl; load = refl; prep = refl }
+    record {
+      own = refl;
+      known = refl;
+      wants = refl;
+      registers = refl;
+      upvalue = refl;
+      closure = refl;
+      capture = refl;
+      reads = refl;
+      sets = refl;
+      fast = refl;
+      back = refl;
+      skip = refl;
+      load = refl;
+      prep = refl;
+    }
 same_jump (JumpIfNotLe left z right) by jump =
-    record { own = refl; known = refl; wants = refl; registers = refl; upvalue = refl; closure = refl; capture = refl; reads = refl; sets = refl; fast = refl; back = refl; skip = refl; load = refl; prep = refl }
+    record {
+      own = refl;
+      known = refl;
+      wants = refl;
+      registers = refl;
+      upvalue = refl;
+      closure = refl;
+      capture = refl;
+      reads = refl;
+      sets = refl;
+      fast = refl;
+      back = refl;
+      skip = refl;
+      load = refl;
+      prep = refl;
+    }
 same_jump (JumpIfNotLt left z right) by jump =
-    record { own = refl; known = refl; wants = refl; registers = refl; upvalue = refl; closure = refl; capture = refl; reads = refl; sets = refl; fast = refl; back = refl; skip = refl; load = refl; prep = refl }
+    record {
+      own = refl;
+      known = refl;
+      wants = refl;
+      registers = refl;
+      upvalue = refl;
+      closure = refl;
+      capture = refl;
+      reads = refl;
+      sets = refl;
+      fast = refl;
+      back = refl;
+      skip = refl;
+      load = refl;
+      prep = refl;
+    }
 same_jump (ForNPrep base z) by jump =
-    record { own = refl; known = refl; wants = refl; registers = refl; upvalue = refl; closure = refl; capture = refl; reads = refl; sets = refl; fast = refl; back = refl; skip = refl; load = refl; prep = refl }
+    record {
+      own = refl;
+      known = refl;
+      wants = refl;
+      registers = refl;
+      upvalue = refl;
+      closure = refl;
+      capture = refl;
+      reads = refl;
+      sets = refl;
+      fast = refl;
+      back = refl;
+      skip = refl;
+      load = refl;
+      prep = refl;
+    }
 same_jump (ForNLoop base z) by jump =
-    record { own = refl; known = refl; wants = refl; registers = refl; upvalue = refl; closure = refl; capture = refl; reads = refl; sets = refl; fast = refl; back = refl; skip = refl; load = refl; prep = refl }
+    record {
+      own = refl;
+      known = refl;
+      wants = refl;
+      registers = refl;
+      upvalue = refl;
+      closure = refl;
+      capture = refl;
+      reads = refl;
+      sets = refl;
+      fast = refl;
+      back = refl;
+      skip = refl;
+      load = refl;
+      prep = refl;
+    }
 same_jump (ForGPrep base z) by jump =
-    record { own = refl; known = refl; wants = refl; registers = refl; upvalue = refl; closure = refl; capture = refl; reads = refl; sets = refl; fast = refl; back = refl; skip = refl; load = refl; prep = refl }
+    record {
+      own = refl;
+      known = refl;
+      wants = refl;
+      registers = refl;
+      upvalue = refl;
+      closure = refl;
+      capture = refl;
+      reads = refl;
+      sets = refl;
+      fast = refl;
+      back = refl;
+      skip = refl;
+      load = refl;
+      prep = refl;
+    }
 same_jump (ForGLoop base z variables) by jump =
-    record { own = refl; known = refl; wants = refl; registers = refl; upvalue = refl; closure = refl; capture = refl; reads = refl; sets = refl; fast = refl; back = refl; skip = refl; load = refl; prep = refl }
+    record {
+      own = refl;
+      known = refl;
+      wants = refl;
+      registers = refl;
+      upvalue = refl;
+      closure = refl;
+      capture = refl;
+      reads = refl;
+      sets = refl;
+      fast = refl;
+      back = refl;
+      skip = refl;
+      load = refl;
+      prep = refl;
+    }
 same_jump (JumpXEqKNil value z test) by jump =
-    record { own = refl; known = refl; wants = refl; registers = refl; upvalue = refl; closure = refl; capture = refl; reads = refl; sets = refl; fast = refl; back = refl; skip = refl; load = refl; prep = refl }
+    record {
+      own = refl;
+      known = refl;
+      wants = refl;
+      registers = refl;
+      upvalue = refl;
+      closure = refl;
+      capture = refl;
+      reads = refl;
+      sets = refl;
+      fast = refl;
+      back = refl;
+      skip = refl;
+      load = refl;
+      prep = refl;
+    }
 same_jump (JumpXEqKB value z test) by jump =
-    record { own = refl; known = refl; wants = refl; registers = refl; upvalue = refl; closure = refl; capture = refl; reads = refl; sets = refl; fast = refl; back = refl; skip = refl; load = refl; prep = refl }
+    record {
+      own = refl;
+      known = refl;
+      wants = refl;
+      registers = refl;
+      upvalue = refl;
+      closure = refl;
+      capture = refl;
+      reads = refl;
+      sets = refl;
+      fast = refl;
+      back = refl;
+      skip = refl;
+      load = refl;
+      prep = refl;
+    }
 same_jump (JumpXEqKN value z test) by jump =
-    record { own = refl; known = refl; wants = refl; registers = refl; upvalue = refl; closure = refl; capture = refl; reads = refl; sets = refl; fast = refl; back = refl; skip = refl; load = refl; prep = refl }
+    record {
+      own = refl;
+      known = refl;
+      wants = refl;
+      registers = refl;
+      upvalue = refl;
+      closure = refl;
+      capture = refl;
+      reads = refl;
+      sets = refl;
+      fast = refl;
+      back = refl;
+      skip = refl;
+      load = refl;
+      prep = refl;
+    }
 same_jump (JumpXEqKS value z test) by jump =
-    record { own = refl; known = refl; wants = refl; registers = refl; upvalue = refl; closure = refl; capture = refl; reads = refl; sets = refl; fast = refl; back = refl; skip = refl; load = refl; prep = refl }
+    record {
+      own = refl;
+      known = refl;
+      wants = refl;
+      registers = refl;
+      upvalue = refl;
+      closure = refl;
+      capture = refl;
+      reads = refl;
+      sets = refl;
+      fast = refl;
+      back = refl;
+      skip = refl;
+      load = refl;
+      prep = refl;
+    }
 same_jump i by jump = cc
 
 pub jumps_by : (i : Instruction) (by : ℤ) → IsTrue (is_jump i) → jump_of (jumping i by) ≡ Some by
