@@ -38,7 +38,7 @@ await() {
 # the others take over. The longest way leads through the syntax tree and the parser.
 first_chain() {
     prove whole_num byte_text syntax_tree expression_parser && await node_numbers && prove luau_parser \
-        && await scopes && await built_emitter && (cd crates/luau_cli && rt run -- run /dev/null)
+        && await scopes && await script_compiler && (cd crates/luau_cli && rt run -- run /dev/null)
 }
 
 second_chain() {
@@ -46,7 +46,8 @@ second_chain() {
 }
 
 third_chain() {
-    await byte_text && prove built_vm code_link && await syntax_tree && prove built_emitter
+    await byte_text && prove built_vm code_link chunk_file chunk_check && await syntax_tree \
+        && prove built_emitter unbuilt_nodes script_compiler
 }
 
 # Runs a chain in a copy of its own.

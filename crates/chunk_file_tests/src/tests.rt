@@ -1,4 +1,4 @@
-use chunk_file::{ChunkErr, list, read, write};
+use chunk_file::{ChunkErr, has_counts, list, read, write};
 
 // The chunk of the empty script.
 const EMPTY: &[u8] = &[
@@ -262,6 +262,7 @@ fn chunks_both_ways(rt: HostRuntime) {
     for bytes in &[EMPTY, LARGE] {
         let bytes = *bytes;
         let chunk = read(rt.alloc(), bytes).expect(&rt, "a chunk");
+        assert!(rt; has_counts(&chunk));
         assert_eq!(rt;
             write(rt.alloc(), &chunk).expect(&rt, "memory").as_slice(),
             bytes

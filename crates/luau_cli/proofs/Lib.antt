@@ -5,3 +5,4 @@ pub mod Bindings
 pub mod Refused
 pub mod Replying
 pub mod Outcomes
+pub mod Working

@@ -1,5 +1,5 @@
--- A script all of which is built is not refused.
-use Rattle.std.proofs.Common.{◌≡◌, ◌∙◌, ℕ, List, [], sym, ap, subst, arith}
+-- A script all of which is built is not refused, and a well-formed chunk is not.
+use Rattle.std.proofs.Common.{◌≡◌, ◌∙◌, ℕ, List, [], Some, sym, ap, ap₂, subst, arith}
 use Rattle.std.specs.Prelude.{Contains}
 use Rattle.std.proofs.lemmas.Option.{none-some}
 use Rattle.syntax_tree.specs.declared.fault.ScopeFault.{ScopeFault}
@@ -7,15 +7,19 @@ use Rattle.syntax_tree.specs.declared.fault.Refusal.{Refusal}
 use Rattle.syntax_tree.specs.declared.token.Token.{Token}
 use Rattle.syntax_tree.specs.declared.tree.Tree.{Tree}
 use Rattle.syntax_tree.specs.Accepts.{Accepts, Refuses, no_tokens, no_tree, breaks_rule}
-use Rattle.syntax_tree.specs.Bound.{bound, faults}
-use Rattle.syntax_tree.specs.Tokens.{HasTokens}
+use Rattle.syntax_tree.specs.Bound.{faults}
+use Rattle.syntax_tree.specs.Tokens.{HasTokens, texts_after}
+use Rattle.byte_text.specs.Texts.{fixed_texts}
+use Rattle.luau_lexer.proofs.OneReading.{tokens_once}
 use Rattle.luau_lexer.proofs.OneTokenList.{one_list, tokens_or_fault}
 use Rattle.syntax_tree.specs.Parsed.{IsParsed, HasRefusal}
 use Rattle.luau_parser.proofs.Answering.{same_tree as once, parsed_or_refused}
-use Rattle.built_emitter.specs.Unbuilt.{first_unbuilt}
-use Rattle.luau_cli.specs.declared.refusal.ScriptErr.{ScriptErr}
-use Rattle.luau_cli.specs.declared.refusal.ScriptErr.TheVariants as error
-use Rattle.luau_cli.specs.Refusals.{statements, IsScript, IsRefused}
+use Rattle.op_words.specs.Chunks.{ChunkOf}
+use Rattle.machine_meaning.specs.WellFormed.{CodeFault, IsWellFormed, code_fault, first_of}
+use Rattle.chunk_file.specs.Reading.{read_file, IsChunk}
+use Rattle.luau_cli.specs.declared.refusal.ChunkRefusal.{ChunkRefusal}
+use Rattle.luau_cli.specs.declared.refusal.ChunkRefusal.TheVariants as chunk
+use Rattle.luau_cli.specs.Refusals.{Unbuilt, texts_of, IsScript, IsChunkRefused}
 
 -- a text has one tree
 same_tree : (bytes : List ℕ) (ts us : List Token) (a b : Tree) → HasTokens bytes ts → HasTokens bytes us → IsParsed ts a → IsParsed us b → a ≡ b
@@ -38,10 +42,33 @@ refused_or_accepted bytes _ (breaks_rule tokens other fault spelled parsed first
     let same = same_tree bytes tokens a.tokens other tree spelled a.spelled parsed a.parsed in
     no_fault (faults other) fault (ap faults same ∙ a.unbroken) first.broken
 
-pub refused_or_script : (bytes : List ℕ) (why : ScriptErr) → IsRefused bytes why → (tree : Tree) → IsScript bytes tree → ⊥
-refused_or_script bytes (error.Refused why) refusal tree s = refused_or_accepted bytes why refusal tree s.accepted
-refused_or_script bytes (error.NotBuilt at) u tree s =
-    let a = s.accepted in
-    let b = u.accepted in
-    let same = same_tree bytes b.tokens a.tokens u.tree tree b.spelled a.spelled b.parsed a.parsed in
-    none-some at (sym s.built ∙ ap (λ t. first_unbuilt (bound t) (statements t)) (sym same) ∙ u.first)
+-- an accepted text has one tree and one list of texts
+pub same_unbuilt : (unbuilt : Unbuilt) (bytes : List ℕ) (tree other : Tree) (a : Accepts bytes tree) (b : Accepts bytes other)
+    → unbuilt tree (texts_of a) ≡ unbuilt other (texts_of b)
+same_unbuilt unbuilt bytes tree other a b =
+    let trees = same_tree bytes a.tokens b.tokens tree other a.spelled b.spelled a.parsed b.parsed in
+    let spelled = tokens_once bytes a.spelled.spelled b.spelled.spelled a.spelled.spells b.spelled.spells in
+    ap₂ unbuilt trees (ap (texts_after fixed_texts) spelled)
+
+-- what is built of a text is not refused
+pub built_or_not : (unbuilt : Unbuilt) (bytes : List ℕ) (tree other : Tree) (at : ℕ) (b : Accepts bytes other) → IsScript unbuilt bytes tree
+    → unbuilt other (texts_of b) ≡ Some at → ⊥
+built_or_not unbuilt bytes tree other at b s first =
+    none-some at (sym s.built ∙ same_unbuilt unbuilt bytes tree other s.accepted b ∙ first)
+
+-- a well-formed chunk breaks no rule
+unbroken : (c : ChunkOf) (fault : CodeFault) → code_fault c ≡ Some fault → IsWellFormed c → ⊥
+unfolding code_fault
+unbroken c fault e sound = none-some fault (sym (ap first_of sound) ∙ e)
+
+-- the bytes of a well-formed chunk are not refused
+pub listed_or_not : (bytes : List ℕ) (why : ChunkRefusal) (c : ChunkOf) → read_file bytes ≡ IsChunk c → IsWellFormed c → IsChunkRefused bytes why → ⊥
+listed_or_not bytes (chunk.Truncated at) c read sound is = let no = sym is ∙ read in cc
+listed_or_not bytes (chunk.BadMagic at) c read sound is = let no = sym is ∙ read in cc
+listed_or_not bytes (chunk.BadVersion at) c read sound is = let no = sym is ∙ read in cc
+listed_or_not bytes (chunk.BadField at) c read sound is = let no = sym is ∙ read in cc
+listed_or_not bytes (chunk.Trailing at) c read sound is = let no = sym is ∙ read in cc
+listed_or_not bytes (chunk.BadCode proto place rule) c read sound is =
+    let one = sym is.1 ∙ read in
+    let same : is.0 ≡ c = cc in
+    unbroken c (record { proto = proto; place = place; rule = rule }) (ap code_fault (sym same) ∙ is.2) sound

@@ -2,7 +2,7 @@
 use Rattle.std.specs.Prelude.{◌≡◌, ℕ, ◌≤◌, List, Option, length, take}
 use Rattle.resource.specs.Faults.{Rose}
 use Rattle.outside_io.specs.Sinks.{appended}
-use Rattle.luau_cli.specs.Answer.{Answer, HasRun, HasRefused}
+use Rattle.luau_cli.specs.Answer.{Answer, IsDone, HasRefused}
 
 -- a sink before and after: the bytes that it tells, and its count of faults
 pub record Change : Type 0 where
@@ -27,9 +27,9 @@ abbrev pub GainsFront : Change → List ℕ → Type 0
 GainsFront c bytes = Rose c.before c.now × ((count : ℕ) × (count ≤ length bytes) × (c.new ≡ appended c.old (take count bytes)))
 
 -- How an answer was written: the output first, then the report; behind a failed write nothing more.
--- Where a script ran and a write failed, the status is 5; a refusal keeps its status.
+-- Where the work was done and a write failed, the status is 5; a refusal keeps its status.
 pub data Delivers (a : Answer) (out report : Change) : (status : ℕ) → Type 0 where
   whole : Gains out a.output → Gains report a.report → Delivers a out report a.status
-  no_output : HasRun a.status → GainsFront out a.output → IsUntouched report → Delivers a out report 5
-  no_report : HasRun a.status → Gains out a.output → GainsFront report a.report → Delivers a out report 5
+  no_output : IsDone a.status → GainsFront out a.output → IsUntouched report → Delivers a out report 5
+  no_report : IsDone a.status → Gains out a.output → GainsFront report a.report → Delivers a out report 5
   refused : HasRefused a.status → IsUntouched out → GainsFront report a.report → Delivers a out report a.status

@@ -1,6 +1,9 @@
 //! The command line of the Luau compiler and sandbox.
 #![tactic(auto)]
 
+#[cfg(test)]
+mod chunk_tests;
+mod chunks;
 mod outcome;
 mod refusal;
 mod reply;

@@ -1,13 +1,10 @@
-//! From a text to the tree that is run, or to its refusal.
+//! From a text to its tree, or to its refusal.
 
 ghost use Rattle.std.specs.Prelude.{◌≡◌, IfOk, Some};
 ghost use Rattle.syntax_tree.specs.declared.fault.Refusal.{Refusal};
-ghost use Rattle.luau_cli.specs.declared.refusal.ScriptErr.TheVariants as script_error;
 ghost use Rattle.luau_cli.specs.declared.script.Reading.TheVariants as reading;
-ghost use Rattle.luau_cli.specs.Refusals.{IsReadingOf, IsCompilable};
+ghost use Rattle.luau_cli.specs.Readings.{IsReadingOf};
 
-use crate::refusal::ScriptErr;
-use built_emitter::first_unbuilt;
 use byte_text::Interner;
 use luau_lexer::lex;
 use luau_parser::parse;
@@ -16,20 +13,26 @@ use scopes::resolve;
 use std::alloc::Global;
 use syntax_tree::{Bindings, Refusal, Tree};
 
+/// An accepted script: its tree, the bindings of the tree, and the texts of its names and strings.
+#[derive(Drop)]
+pub struct Script {
+    pub tree: Tree,
+    pub bindings: Bindings,
+    pub names: Interner,
+}
+
 /// What a text is found to be.
 #[derive(Drop)]
 pub enum Reading {
-    /// An accepted script all of which is built, with its tree and the bindings of the tree.
-    Script(Tree, Bindings),
-    Refused(ScriptErr),
+    Accepted(Script),
+    Refused(Refusal),
 }
 
-/// Reads a whole text: its tokens, their tree, the rules of scopes and sizes, and which nodes are built.
+/// Reads a whole text: its tokens, their tree, and the rules of scopes and sizes.
 ///
 /// The only error is want of memory.
 pub fn read_script(alloc: Global, source: &[u8]) -> Result<Reading, OutOfMemory>
-    ensures reading { IfOk result (IsReadingOf source.now) }
-    ensures compilable { IfOk result IsCompilable }
+    ensures { IfOk result (IsReadingOf source.now) }
 {
     let mut names = Interner::new(alloc);
     let tokens = match lex(alloc, source, &mut names) {
@@ -40,22 +43,22 @@ pub fn read_script(alloc: Global, source: &[u8]) -> Result<Reading, OutOfMemory>
         Ok(tree) => tree,
         Err(error) => return refused(error.refusal()),
     };
-    let bindings = match resolve(alloc, &tree) {
-        Ok(bindings) => bindings,
-        Err(error) => return refused(error.refusal()),
-    };
-    match first_unbuilt(&tree, &bindings) {
-        Some(at) => Ok(Reading::Refused(ScriptErr::NotBuilt { at })),
-        None => Ok(Reading::Script(tree, bindings)),
+    match resolve(alloc, &tree) {
+        Ok(bindings) => Ok(Reading::Accepted(Script {
+            tree,
+            bindings,
+            names,
+        })),
+        Err(error) => refused(error.refusal()),
     }
 }
 
 // A refusal, unless memory ran out.
 fn refused(refusal: Option<Refusal>) -> Result<Reading, OutOfMemory>
-    ensures { IfOk result (λ r. (why : Refusal) × (refusal ≡ Some why) × (r ≡ reading.Refused (script_error.Refused why))) }
+    ensures { IfOk result (λ r. (why : Refusal) × (refusal ≡ Some why) × (r ≡ reading.Refused why)) }
 {
     match refusal {
-        Some(refusal) => Ok(Reading::Refused(ScriptErr::Refused(refusal))),
+        Some(refusal) => Ok(Reading::Refused(refusal)),
         None => Err(OutOfMemory),
     }
 }

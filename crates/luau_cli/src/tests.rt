@@ -6,25 +6,25 @@ use std::test::Fail;
 
 /// What the program is given: words, the contents of the file `a`, and the calls that are to fail.
 #[derive(Clone, Copy)]
-struct Given<'a> {
-    words: &'a [&'a str],
-    script: &'a [u8],
-    failing_reads: &'a [u64],
-    failing_outputs: &'a [u64],
-    failing_reports: &'a [u64],
+pub struct Given<'a> {
+    pub words: &'a [&'a str],
+    pub script: &'a [u8],
+    pub failing_reads: &'a [u64],
+    pub failing_outputs: &'a [u64],
+    pub failing_reports: &'a [u64],
 }
 
 /// What it has to do.
 #[derive(Clone, Copy)]
-struct Wanted<'a> {
-    status: u8,
-    output: &'a [u8],
-    report: &'a [u8],
+pub struct Wanted<'a> {
+    pub status: u8,
+    pub output: &'a [u8],
+    pub report: &'a [u8],
 }
 
 const ROOM: usize = 100_000;
 
-fn expect(
+pub fn expect(
     rt: &(impl Abort + AllocGlobal),
     given: &Given<'_>,
     wanted: &Wanted<'_>,

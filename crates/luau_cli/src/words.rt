@@ -1,7 +1,8 @@
 //! The words of a command.
 
 ghost use Rattle.std.specs.Prelude.{◌≡◌, ℕ, ◌∷◌, [], List, codes, map, string_bytes, MatchOption};
-ghost use Rattle.luau_cli.specs.Command.{IsTurns, RunFile};
+ghost use Rattle.luau_cli.specs.declared.words.Mode.{Mode};
+ghost use Rattle.luau_cli.specs.Command.{IsTurns, IsCommand, mode_word, default_turns};
 
 /// How many turns a script may spend where no word says it.
 const DEFAULT_TURNS: u32 = 10_000_000;
@@ -9,9 +10,21 @@ const DEFAULT_TURNS: u32 = 10_000_000;
 /// The most digits of a number of turns.
 const TURN_DIGITS: usize = 10;
 
-/// What the words say: a file is run, with a bound on its turns.
+/// What is done with a file.
+#[derive(Clone, Copy)]
+pub enum Mode {
+    /// A script is run.
+    Run,
+    /// A script is compiled to a chunk.
+    Compile,
+    /// A chunk is listed.
+    List,
+}
+
+/// What the words say: what is done with which file, and the bound on the turns of a script that is run.
 #[derive(Clone, Copy)]
 pub struct Command<'a> {
+    pub mode: Mode,
     pub turns: u32,
     pub file: &'a str,
 }
@@ -19,52 +32,82 @@ pub struct Command<'a> {
 /// The command that the words spell.
 pub fn read_command(words: &[String]) -> Option<Command<'_>>
     ensures { MatchOption result
-        ((turns : ℕ) (file : List ℕ) → RunFile (map string_bytes words.now) turns file → ⊥)
-        (λ command. RunFile (map string_bytes words.now) command.turns command.file.now) }
+        ((mode : Mode) (turns : ℕ) (file : List ℕ) → IsCommand (map string_bytes words.now) mode turns file → ⊥)
+        (λ command. IsCommand (map string_bytes words.now) command.mode command.turns command.file.now) }
 {
-    match run_file(words) {
-        Some(file) => Some(Command {
-            turns: DEFAULT_TURNS,
-            file,
-        }),
+    match plain_command(words) {
+        Some(command) => Some(command),
         None => bounded_command(words),
     }
 }
 
-/// The file of `run FILE`.
-fn run_file(words: &[String]) -> Option<&str>
+/// What `MODE FILE` says.
+fn plain_command(words: &[String]) -> Option<Command<'_>>
     ensures { MatchOption result
-        ((file : List ℕ) → map string_bytes words.now ≡ codes "run" ∷ file ∷ [] → ⊥)
-        (λ file. map string_bytes words.now ≡ codes "run" ∷ file.now ∷ []) }
+        ((mode : Mode) (file : List ℕ) → map string_bytes words.now ≡ mode_word mode ∷ file ∷ [] → ⊥)
+        (λ command. (map string_bytes words.now ≡ mode_word command.mode ∷ command.file.now ∷ []) × (command.turns ≡ default_turns)) }
+{
+    let (mode, file) = mode_and_file(words)?;
+    let mode = mode_of(mode)?;
+    Some(Command {
+        mode,
+        turns: DEFAULT_TURNS,
+        file,
+    })
+}
+
+/// Two words, where there are no more.
+fn mode_and_file(words: &[String]) -> Option<(&str, &str)>
+    ensures { MatchOption result
+        ((mode file : List ℕ) → map string_bytes words.now ≡ mode ∷ file ∷ [] → ⊥)
+        (λ found. map string_bytes words.now ≡ found.0.now ∷ found.1.now ∷ []) }
 {
     match words {
-        [mode, file] if mode.as_str() == "run" => Some(file.as_str()),
+        [mode, file] => Some((mode.as_str(), file.as_str())),
         _ => None,
     }
 }
 
-/// What `run --turns N FILE` says, if the bound is one.
+/// What `MODE --turns N FILE` says, if the bound is one.
 fn bounded_command(words: &[String]) -> Option<Command<'_>>
     ensures { MatchOption result
-        ((turns : ℕ) (number file : List ℕ) → map string_bytes words.now ≡ codes "run" ∷ codes "--turns" ∷ number ∷ file ∷ [] → IsTurns number turns → ⊥)
-        (λ command. (number : List ℕ) × (map string_bytes words.now ≡ codes "run" ∷ codes "--turns" ∷ number ∷ command.file.now ∷ []) × IsTurns number command.turns) }
+        ((mode : Mode) (turns : ℕ) (number file : List ℕ) → map string_bytes words.now ≡ mode_word mode ∷ codes "--turns" ∷ number ∷ file ∷ []
+        → IsTurns number turns → ⊥)
+        (λ command. (number : List ℕ)
+        × (map string_bytes words.now ≡ mode_word command.mode ∷ codes "--turns" ∷ number ∷ command.file.now ∷ []) × IsTurns number command.turns) }
 {
-    let (number, file) = turns_and_file(words)?;
+    let (mode, number, file) = mode_turns_and_file(words)?;
+    let mode = mode_of(mode)?;
     let turns = turns_of(number)?;
-    Some(Command { turns, file })
+    Some(Command { mode, turns, file })
 }
 
-/// The two words behind `run --turns`, where there are no more.
-fn turns_and_file(words: &[String]) -> Option<(&str, &str)>
+/// The words around `--turns`, where there are no more.
+fn mode_turns_and_file(words: &[String]) -> Option<(&str, &str, &str)>
     ensures { MatchOption result
-        ((number file : List ℕ) → map string_bytes words.now ≡ codes "run" ∷ codes "--turns" ∷ number ∷ file ∷ [] → ⊥)
-        (λ found. map string_bytes words.now ≡ codes "run" ∷ codes "--turns" ∷ found.0.now ∷ found.1.now ∷ []) }
+        ((mode number file : List ℕ) → map string_bytes words.now ≡ mode ∷ codes "--turns" ∷ number ∷ file ∷ [] → ⊥)
+        (λ found. map string_bytes words.now ≡ found.0.now ∷ codes "--turns" ∷ found.1.now ∷ found.2.now ∷ []) }
 {
     match words {
-        [mode, option, number, file] if mode.as_str() == "run" && option.as_str() == "--turns" => {
-            Some((number.as_str(), file.as_str()))
+        [mode, option, number, file] if option.as_str() == "--turns" => {
+            Some((mode.as_str(), number.as_str(), file.as_str()))
         }
         _ => None,
+    }
+}
+
+/// The mode that a word names.
+fn mode_of(word: &str) -> Option<Mode>
+    ensures { MatchOption result ((mode : Mode) → word.now ≡ mode_word mode → ⊥) (λ mode. word.now ≡ mode_word mode) }
+{
+    if word == "run" {
+        Some(Mode::Run)
+    } else if word == "compile" {
+        Some(Mode::Compile)
+    } else if word == "list" {
+        Some(Mode::List)
+    } else {
+        None
     }
 }
 

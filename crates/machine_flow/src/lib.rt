@@ -10,5 +10,5 @@ mod turns;
 
 pub use answers::{take_answer, take_nothing, take_test};
 pub use counts::{Failure, begin_count, next_count};
-pub use lists::{get_varargs, take_results};
+pub use lists::{get_varargs, give_list, take_results};
 pub use turns::{ask, take_begin, take_turn};

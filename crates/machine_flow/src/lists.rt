@@ -65,9 +65,9 @@ pub fn get_varargs(
     give_list(machine, world, to, count, next, values)
 }
 
-// Gives values to the registers from one on: one fewer than `count`, with nil for those that are missing, or at 0 all of them. The
-// code goes on behind that.
-fn give_list(
+/// Gives values to the registers from one on: one fewer than `count`, with nil for those that are missing, or at 0 all of them. The
+/// code goes on behind that.
+pub fn give_list(
     machine: &mut Machine,
     world: &LibWorld,
     to: u8,

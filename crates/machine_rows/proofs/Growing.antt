@@ -1,5 +1,5 @@
 -- Texts come into the world of a machine, and nothing else of it changes.
-use Rattle.std.proofs.Common.{◌≡◌, ℕ, zero, suc, ◌<◌, List, [], ◌∷◌, length, get_or, refl, sym, ◌∙◌, ap, subst, arith}
+use Rattle.std.proofs.Common.{◌≡◌, ℕ, zero, suc, ◌+◌, ◌-◌, ◌<◌, List, [], ◌∷◌, length, take, drop, get_or, refl, sym, ◌∙◌, ap, subst, arith}
 use Rattle.std.specs.List.{AllByRecursion}
 use Rattle.value_model.specs.Values as m
 use Rattle.value_model.specs.declared.event.Reply.{Reply}
@@ -15,6 +15,9 @@ use Rattle.machine_meaning.specs.States.{Focus}
 use Rattle.machine_code.specs.declared.code.Code.{Code}
 use Rattle.machine_world.specs.Parts.{part}
 use Rattle.machine_world.specs.Sound.{IsMachine}
+use Rattle.machine_world.proofs.Calling.{all_take}
+use Rattle.machine_world.proofs.Delivering.{all_drop}
+use Rattle.machine_world.proofs.FrameKinds.{all_on}
 use Rattle.machine_rows.specs.Texts.{KnowsTexts}
 use Rattle.machine_rows.proofs.Named.{part_named, machine_named, knows_named}
 
@@ -61,3 +64,10 @@ module _ (w w' : LibWorld) (g : Growth w w') where
       all_at [] i low h = absurd (omega (arith, low))
       all_at (v ∷ vs) zero low h = h.0
       all_at (v ∷ vs) (suc i) low h = all_at vs i (omega (arith, low)) h.1
+
+  -- the values behind one of them
+  pub later_usable : IsWorld w → (vs rest : List Value) (i : ℕ) → rest ≡ take (length vs - (i + 1)) (drop (i + 1) vs) → AllByRecursion (MayUseIn w) vs →
+      AllByRecursion (MayUseIn w') rest
+  later_usable is vs rest i e h =
+      subst (AllByRecursion (MayUseIn w')) (sym e)
+      (all_take (MayUseIn w') (length vs - (i + 1)) (drop (i + 1) vs) (all_drop (MayUseIn w') (i + 1) vs (all_on (MayUseIn w) (MayUseIn w') (may_use_on w w' (growth_keeps is)) vs h)))

@@ -3,3 +3,5 @@ pub mod Owned
 pub mod Constants
 pub mod Numbered
 pub mod Beyond
+pub mod Staying
+pub mod Lists

@@ -62,3 +62,7 @@ index_is w code s (negsuc k) h = absurd h
 pub index_there : (w : LibWorld) (code : Code) (s : StackView) (insn i : Insn) (k : ℤ) (want : Want) (ks : List (ℤ × Want)) → insn ≡ i →
     constants_of i ≡ (k, want) ∷ ks → IsReady w code s insn → IsIndex k
 index_there w code s insn i k want ks same e ready = index_is w code s k (constant_there w code s insn i k want ks same e ready)
+
+pub own_range_second : (w : LibWorld) (code : Code) (s : StackView) (insn i : Insn) (a b : Range) (rs : List Range) → insn ≡ i →
+    registers_of i ≡ a ∷ b ∷ rs → IsReady w code s insn → AreOwn s b
+own_range_second w code s insn i a b rs same e ready = (subst (Each (AreOwn s)) (ap registers_of same ∙ e) ready.registers).1.0

@@ -8,7 +8,7 @@ use Rattle.value_model.specs.declared.event.Reply.{Reply}
 use Rattle.luau_tables.specs.declared.globals.LibWorld.{LibWorld}
 use Rattle.call_frames.specs.Stacks.{StackView}
 use Rattle.op_words.specs.declared.insn.Insn.{Insn}
-use Rattle.op_words.specs.declared.insn.Insn.TheVariants.{Nop}
+use Rattle.op_words.specs.declared.insn.Insn.TheVariants.{Nop, JumpBack, ForNLoop, ForGLoop}
 use Rattle.op_words.specs.Decoding.{insn_at}
 use Rattle.op_words.specs.Chunks.{ChunkOf, ProtoOf}
 use Rattle.machine_meaning.specs.Chunks.{proto_at}
@@ -29,7 +29,8 @@ use Rattle.machine_flow.specs.declared.counts.Failure.TheVariants as failure
 use Rattle.machine_rows.specs.Leading.{goes, ends, ComesTo, Does}
 use Rattle.machine_rows.specs.declared.next.Next.{Next}
 use Rattle.machine_rows.specs.declared.next.Next.TheVariants.{Continues, Gives, Calls, Fails, Stops}
-use Rattle.machine_steps.specs.Courses.{Course, Leads, Reaches, ReachesSo, is, moves, charges, Executes, course_next, next_of}
+use Rattle.machine_steps.specs.Courses.{Course, Leads, Untold, Reaches, ReachesSo, is, moves, charges, Executes, course_next, next_of}
+use Rattle.machine_steps.specs.Groups.{is_still, is_call}
 use Rattle.machine_steps.specs.Ready.{StandsAt}
 
 step_row : (chunk : ChunkOf) (p : ProtoOf) (w : LibWorld) (code : Code) (s : StackView) (insn : Insn) (next : ℕ) (replies : List Reply) → Runs s →
@@ -161,3 +162,20 @@ pub executes_counted : {A : Type 0} (chunk : ChunkOf) (p : ProtoOf) (w : LibWorl
 executes_counted chunk p w code s s' insn i next q same turn runs stands makes comes =
     executes_looped chunk p w w code s s' insn i next 0 (course_next w.names (next_of q)) same turn runs stands makes
     (reaches_counted chunk w code s s' (charged i next) q comes)
+
+-- ---- instructions that are not built
+
+-- none of them charges a turn
+charges_none : (insn : Insn) → is_still insn ≡ false → is_call insn ≡ false → charges insn ≡ false
+charges_none (Nop (pos zero)) still call = refl
+charges_none (Nop (pos (suc n))) still call = absurd cc
+charges_none (Nop (negsuc n)) still call = refl
+charges_none (JumpBack by) still call = absurd cc
+charges_none (ForNLoop base by) still call = absurd cc
+charges_none (ForGLoop base by variables) still call = absurd cc
+charges_none insn still call = refl
+
+pub executes_untold : (chunk : ChunkOf) (p : ProtoOf) (w : LibWorld) (code : Code) (s : StackView) (insn : Insn) (next : ℕ) → is_still insn ≡ false →
+    is_call insn ≡ false → Runs s → StandsAt chunk p w code s insn next → Executes chunk insn w code s 0 Untold w s
+executes_untold chunk p w code s insn next still call runs stands =
+    executes chunk p w w code s s insn insn next 0 Untold false refl (charges_none insn still call) runs stands (λ replies. tt)

@@ -11,7 +11,7 @@ use Rattle.value_model.specs.declared.error.RunErr.TheVariants as err
 use Rattle.value_model.specs.declared.event.Reply.{Reply}
 use Rattle.value_model.specs.declared.value.Value.{Value}
 use Rattle.bounded_runs.specs.Runs.{Charges}
-use Rattle.luau_tables.specs.Worlds.{MayUseIn}
+use Rattle.luau_tables.specs.Worlds.{MayUseIn, Extends}
 use Rattle.luau_tables.specs.declared.globals.LibWorld.{LibWorld}
 use Rattle.call_frames.specs.Stacks.{StackView}
 use Rattle.machine_meaning.specs.States.{Focus, Run, GiveAll, Invoke, Hand, Fault, State}
@@ -19,7 +19,7 @@ use Rattle.machine_meaning.specs.Moves.{Step}
 use Rattle.machine_meaning.specs.Steps.{step}
 use Rattle.machine_code.specs.declared.code.Code.{Code}
 use Rattle.machine_world.specs.Parts.{part}
-use Rattle.machine_world.specs.Sound.{GoesOn}
+use Rattle.machine_world.specs.Sound.{GoesOn, UsesStay}
 use Rattle.machine_flow.specs.declared.counts.Failure.{Failure}
 use Rattle.machine_flow.specs.declared.counts.Failure.TheVariants as failure
 use Rattle.machine_rows.specs.Leading.{LeadsTo, EndsSo, IsNext}
@@ -99,5 +99,19 @@ course texts vs done.NotBuilt = Untold
 abbrev pub IsDone : LibWorld → StackView → (in_hand : List Value) → Done → Type 0
 IsDone w s vs (done.Next x) = IsNext w s x
 IsDone w s vs (done.Invokes f) = (s.top ≡ 0) × MayUseIn w f × AllByRecursion (MayUseIn w) vs
-IsDone w s vs done.Hands = Unit {0}
+IsDone w s vs done.Hands = (s.top ≡ 0) × AllByRecursion (MayUseIn w) vs
 IsDone w s vs done.NotBuilt = GoesOn s
+
+-- ---- what stays
+
+-- the script's world goes on: it is the same script's, texts keep their numbers, and what the script might use it may still use
+pub record Stays (before after : LibWorld) : Type 0 where
+  pub owner : after.owner ≡ before.owner
+  pub globals : after.globals ≡ before.globals
+  pub names : Extends before.names after.names
+  pub uses : UsesStay before after
+
+-- whether the instruction was done
+abbrev pub is_done : Done → Bool
+is_done done.NotBuilt = false
+is_done x = true

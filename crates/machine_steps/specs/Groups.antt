@@ -111,10 +111,10 @@ abbrev pub is_import : Insn → Bool
 is_import (GetImport to constant path) = true
 is_import insn = false
 
+-- those that leave the script's objects as they are
+abbrev pub is_still : Insn → Bool
+is_still insn = is_load insn || is_jump insn || is_operator insn || is_comparison insn || is_constant_operator insn || is_count insn
+
 -- those that are built
 abbrev pub is_built : Insn → Bool
-is_built insn =
-    is_load insn || is_jump insn || is_operator insn || is_comparison insn || is_read insn || is_constant_operator insn || is_call insn || is_write insn
-    || is_count insn
-    || is_cell insn
-    || is_import insn
+is_built insn = is_still insn || is_read insn || is_call insn || is_write insn || is_cell insn

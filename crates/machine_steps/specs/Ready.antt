@@ -1,12 +1,15 @@
 -- What an instruction finds in the function that runs.
-use Rattle.std.specs.Prelude.{◌≡◌, ℕ, ◌+◌, ◌<◌, ℤ, pos, negsuc, Bool, true, false, List, length, Option, Some, IsSomeAnd, MatchOption, slice_get}
-use Rattle.std.specs.Option.{option_and_then}
+use Rattle.std.specs.Prelude.{◌≡◌, ℕ, ◌+◌, ◌<◌, ℤ, pos, negsuc, Bool, true, false, List, length, Option, Some, IsSomeAnd, MatchOption, slice_get, nat_le}
+use Rattle.std.specs.Option.{option_and_then, option_map_or}
 use Rattle.op_words.specs.declared.insn.Insn.{Insn}
+use Rattle.op_words.specs.declared.insn.Insn.TheVariants.{GetVarargs}
 use Rattle.op_words.specs.Chunks.{ChunkOf, ProtoOf}
 use Rattle.op_words.specs.Decoding.{insn_at}
 use Rattle.value_model.specs.Values.{Bytes}
 use Rattle.luau_tables.specs.declared.globals.LibWorld.{LibWorld}
+use Rattle.call_frames.specs.declared.frame.Frame.{Frame}
 use Rattle.call_frames.specs.Stacks.{StackView}
+use Rattle.call_frames.specs.Cells.{innermost}
 use Rattle.machine_meaning.specs.Chunks.{proto_at}
 use Rattle.machine_meaning.specs.Needs.{Range, Want, AnImport, registers_of, constants_of, is_own, is_known, is_capture, upvalue_of, jump_of, goes_back}
 use Rattle.checked_runs.specs.Safe.{Each}
@@ -73,3 +76,14 @@ pub record StandsAt (chunk : ChunkOf) (p : ProtoOf) (w : LibWorld) (code : Code)
   pub there : proto_at chunk (proto_here w code s) ≡ Some p
   pub read : insn_at p.code (place_here s) ≡ Some (insn, next)
   pub constants : Each (λ k. IsConstantOf chunk (proto_here w code s) k.0 k.1) (constants_of insn)
+
+-- ---- lists of values
+
+-- a register is one of the function that runs, or the one behind them
+abbrev pub reaches : StackView → (register : ℕ) → Bool
+reaches s r = option_map_or (λ (f : Frame). nat_le r f.registers) (innermost s) false
+
+-- no list of values is made that begins further on
+abbrev pub BeginsWithin : StackView → Insn → Type 0
+BeginsWithin s (GetVarargs base values) = reaches s base ≡ true
+BeginsWithin s insn = Unit {0}

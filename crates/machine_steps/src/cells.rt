@@ -7,7 +7,7 @@ ghost use Rattle.machine_meaning.specs.Instructions.{row};
 ghost use Rattle.machine_meaning.specs.States.{Run};
 ghost use Rattle.machine_world.specs.Rows.{Makes};
 ghost use Rattle.machine_world.specs.Sound.{IsMachine, GoesOn};
-ghost use Rattle.machine_steps.specs.Courses.{Executes, Leads};
+ghost use Rattle.machine_steps.specs.Courses.{Executes, Leads, Stays};
 ghost use Rattle.machine_steps.specs.Groups.{is_cell};
 ghost use Rattle.machine_steps.specs.Ready.{IsReady, StandsAt};
 
@@ -24,6 +24,7 @@ pub(crate) fn cell(machine: &mut Machine, world: &mut LibWorld, line: Line)
     ensures does { (chunk : ChunkOf) (p : ProtoOf) → StandsAt chunk p world.old machine.old.code machine.old.stack line.insn line.next → Executes chunk line.insn world.old machine.old.code machine.old.stack 0 (Leads Run) world.new machine.new.stack }
     ensures sound { IsMachine world.new machine.new.stack }
     ensures goes { GoesOn machine.new.stack }
+    ensures stays { Stays world.old world.new }
     ensures code { machine.new.code ≡ machine.old.code }
 {
     match line.insn {
@@ -40,6 +41,7 @@ fn close(machine: &mut Machine, world: &mut LibWorld, from: u8, next: usize)
     ensures makes { (chunk : ChunkOf) (words : List ℕ) → Makes (row chunk words (CloseUpvalues from) next) world.old machine.old.code machine.old.stack world.new machine.new.stack }
     ensures sound { IsMachine world.new machine.new.stack }
     ensures goes { GoesOn machine.new.stack }
+    ensures stays { Stays world.old world.new }
     ensures code { machine.new.code ≡ machine.old.code }
 {
     machine.stack.lies();

@@ -1,17 +1,23 @@
 //! One instruction of the machine: the line at the place of the function that runs is read and done.
 #![tactic(auto)]
 
+mod calls;
 mod cells;
 mod comparisons;
 mod constant_operators;
 mod counts;
 mod done;
+mod executing;
+mod groups;
 mod jumps;
 mod lines;
 mod loads;
 mod operators;
 mod reads;
+mod still;
 mod writes;
 
 pub use done::Done;
+pub use executing::execute;
+pub use groups::charges;
 pub use lines::fetch;

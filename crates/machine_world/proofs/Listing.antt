@@ -1,5 +1,5 @@
 -- Lists of values in the registers of the function that runs.
-use Rattle.std.proofs.Common.{◌≡◌, ℕ, zero, suc, ◌+◌, ◌-◌, ◌≤◌, max, cond, List, [], ◌∷◌, map, length, take, drop, get_or, Option, Some, None, IsSomeAnd, refl, sym, ◌∙◌, ap, subst, arith, lt-ltb, ◌⊎◌, inl, inr, ⊎_elim}
+use Rattle.std.proofs.Common.{◌≡◌, ℕ, zero, suc, ◌+◌, ◌-◌, ◌≤◌, max, cond, List, [], ◌∷◌, map, length, take, drop, get_or, Option, Some, None, IsSomeAnd, refl, sym, ◌∙◌, ap, subst, arith, lt-ltb}
 use Rattle.std.specs.List.{AllByRecursion}
 use Rattle.std.proofs.lemmas.List.{drop_more}
 use Rattle.value_model.specs.Parts.{meant}
@@ -46,27 +46,27 @@ values_are w code s f c from (suc n) replies layout is wide high =
     ∙ ap (λ vs. meant names (get_or s.registers (f.base + from) value.Nil) ∷ vs) (values_are w code s f c (suc from) n replies layout is (omega (arith, wide)) (omega (arith, high)))
     ∙ sym (ap (λ l. map (meant names) (take (suc n) l)) (drop_more s.registers (f.base + from) value.Nil (omega (arith, high)) ∙ ap (λ k. get_or s.registers (f.base + from) value.Nil ∷ drop k s.registers) next))
 
-luau_list : (count from top : ℕ) (q : Option Frame) → IsSomeAnd q (λ f. IsLuau f × ReachesTo count from f.registers f.base top) → IsSomeAnd q IsLuau
-luau_list count from top None h = h
-luau_list count from top (Some f) h = h.0
+luau_list : (count from : ℕ) (q : Option Frame) → IsSomeAnd q (λ f. IsLuau f × ReachesTo count from f.registers) → IsSomeAnd q IsLuau
+luau_list count from None h = h
+luau_list count from (Some f) h = h.0
 
 pub runs_list : (s : StackView) (count from : ℕ) → HasList s count from → Runs s
-runs_list s count from h = luau_list count from s.top (innermost s) h
+runs_list s count from h = luau_list count from (innermost s) h
 
 -- how many there are, and that they are there
 pub record Reached (s : StackView) (f : Frame) (count from : ℕ) : Type 0 where
   pub wide : from + span count s.top (f.base + from) ≤ max f.registers (s.top - f.base)
   pub within : f.base + from + span count s.top (f.base + from) ≤ length s.registers
-  pub low : ReachesTo count from f.registers f.base s.top
+  pub low : ReachesTo count from f.registers
 
 reached_by : (count from : ℕ) (s : StackView) (f : Frame) → f.base + f.registers ≤ length s.registers → s.top ≤ length s.registers →
-    ReachesTo count from f.registers f.base s.top → Reached s f count from
-reached_by zero from s f high top h = record { wide = omega (arith, h); within = omega (arith, h, top); low = h }
+    ReachesTo count from f.registers → Reached s f count from
+reached_by zero from s f high top h = record { wide = omega (arith, h); within = omega (arith, h, high, top); low = h }
 reached_by (suc k) from s f high top h = record { wide = omega (arith, h); within = omega (arith, h, high); low = h }
 
 pub reached : (s : StackView) (f : Frame) (count from : ℕ) → innermost s ≡ Some f → HasList s count from → Layout s → Reached s f count from
 reached s f count from e h layout =
-    reached_by count from s f (lies s f e layout).high layout.top (of_frame s (λ f. IsLuau f × ReachesTo count from f.registers f.base s.top) f e h).1
+    reached_by count from s f (lies s f e layout).high layout.top (of_frame s (λ f. IsLuau f × ReachesTo count from f.registers) f e h).1
 
 list_is : (count from : ℕ) (s : StackView) (f : Frame) (run : machine.Frame) (world : machine.World) → run.top ≡ s.top - f.base →
     list_from count from run world ≡ values_in run world from (span count s.top (f.base + from))
@@ -99,14 +99,11 @@ part_list w code s f count from x replies e h layout is =
 pub list_usable : (w : LibWorld) (s : StackView) (n from : ℕ) → IsMachine w s → AllByRecursion (MayUseIn w) (take n (drop from s.registers))
 list_usable w s n from is = all_take (MayUseIn w) n (drop from s.registers) (all_drop (MayUseIn w) from s.registers is.values)
 
-place_by : (count from : ℕ) (s : StackView) (f : Frame) → ReachesTo count from f.registers f.base s.top →
-    (f.base + from ≤ f.base + f.registers) ⊎ (f.base + from ≤ s.top)
-place_by zero from s f h = inr h
-place_by (suc k) from s f h = inl (omega (arith, h))
+place_by : (count from : ℕ) (f : Frame) → ReachesTo count from f.registers → f.base + from ≤ f.base + f.registers
+place_by zero from f h = omega (arith, h)
+place_by (suc k) from f h = omega (arith, h)
 
--- where a list begins is no further than the end of the registers, or than the top
-pub list_place : (s : StackView) (f : Frame) (count from : ℕ) → innermost s ≡ Some f → HasList s count from →
-    (f.base + from ≤ end_of s) ⊎ (f.base + from ≤ s.top)
+-- where a list begins is no further than the end of the registers
+pub list_place : (s : StackView) (f : Frame) (count from : ℕ) → innermost s ≡ Some f → HasList s count from → f.base + from ≤ end_of s
 list_place s f count from e h =
-    ⊎_elim (λ le. inl (subst (λ n. f.base + from ≤ n) (sym (ap end_in e)) le)) (λ le. inr le)
-    (place_by count from s f (of_frame s (λ f. IsLuau f × ReachesTo count from f.registers f.base s.top) f e h).1)
+    subst (λ n. f.base + from ≤ n) (sym (ap end_in e)) (place_by count from f (of_frame s (λ f. IsLuau f × ReachesTo count from f.registers) f e h).1)

@@ -148,14 +148,14 @@ pub record Up (w : LibWorld) (code : Code) (s : StackView) (u : ℕ) (c : CellId
 abbrev pub HasPlaceOf : StackView → ℕ → Type 0
 HasPlaceOf s r = IsSomeAnd (innermost s) (λ f. IsLuau f × (r ≤ f.registers))
 
--- so many values less one from a register on are among its own, or the list of values begins no later
-abbrev pub ReachesTo : (count : ℕ) → (from registers base top : ℕ) → Type 0
-ReachesTo zero from n base top = base + from ≤ top
-ReachesTo (suc k) from n base top = from + k ≤ n
+-- so many values less one from a register on are among its own, or the list of values that begins there begins no further on
+abbrev pub ReachesTo : (count from registers : ℕ) → Type 0
+ReachesTo zero from n = from ≤ n
+ReachesTo (suc k) from n = from + k ≤ n
 
 abbrev pub HasList : StackView → (count from : ℕ) → Type 0
 HasList s count from =
-    IsSomeAnd (innermost s) (λ f. IsLuau f × ReachesTo count from f.registers f.base s.top)
+    IsSomeAnd (innermost s) (λ f. IsLuau f × ReachesTo count from f.registers)
 
 -- a Luau function runs, and waits for no call
 abbrev pub GoesOn : StackView → Type 0

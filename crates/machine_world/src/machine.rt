@@ -86,6 +86,8 @@ impl Machine {
         requires has { HasUpvalue world.old.arena self.old.stack upvalue }
         requires usable { MayUseIn world.old v }
         ensures written { parts.Becomes (parts.changed (parts.set_upvalue upvalue (meant world.old.names v))) world.old self.old.code self.old.stack world.new self.new.stack }
+        ensures world { world.new ≡ record world.old { arena = world.new.arena } }
+        ensures uses { UsesStay world.old world.new }
         ensures sound { IsMachine world.new self.new.stack }
         ensures frames { self.new.stack.frames ≡ self.old.stack.frames }
         ensures code { self.new.code ≡ self.old.code }
@@ -117,6 +119,8 @@ impl Machine {
         requires sound { IsMachine world.old self.old.stack }
         requires has { HasRegister self.old.stack register }
         ensures closed { parts.Becomes (parts.changed (parts.close register)) world.old self.old.code self.old.stack world.new self.new.stack }
+        ensures world { world.new ≡ record world.old { arena = world.new.arena } }
+        ensures uses { UsesStay world.old world.new }
         ensures sound { IsMachine world.new self.new.stack }
         ensures frames { self.new.stack.frames ≡ self.old.stack.frames }
         ensures code { self.new.code ≡ self.old.code }
@@ -285,11 +289,10 @@ impl Machine {
 
 // How many values there are from a place on: one fewer than `count`, or at 0 all up to the top.
 fn span(count: u8, top: usize, at: usize) -> usize
-    requires { count ≡ 0 → at ≤ top }
     ensures { result ≡ parts.span count top at }
 {
     if count == 0 {
-        top - at
+        top.saturating_sub(at)
     } else {
         usize::from(count) - 1
     }

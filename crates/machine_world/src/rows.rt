@@ -11,7 +11,7 @@ ghost use Rattle.std.specs.List.{AllByRecursion};
 ghost use Rattle.value_model.specs.Waits.{ByScript};
 ghost use Rattle.machine_meaning.specs.States.{Invoke, Hand};
 ghost use Rattle.machine_world.specs.Rows.{Makes, MakesTo};
-ghost use Rattle.machine_world.specs.Sound.{IsMachine, HasRegister, HasUpvalue, HasList, GoesOn};
+ghost use Rattle.machine_world.specs.Sound.{IsMachine, HasRegister, HasUpvalue, HasList, GoesOn, UsesStay};
 
 use crate::machine::Machine;
 use call_frames::ReturnKind;
@@ -85,6 +85,8 @@ impl Machine {
         requires from { HasRegister self.old.stack from }
         requires up { HasUpvalue world.old.arena self.old.stack upvalue }
         ensures makes { (chunk : ChunkOf) (words : List ℕ) → Makes (row chunk words (SetUpvalue from upvalue) next) world.old self.old.code self.old.stack world.new self.new.stack }
+        ensures world { world.new ≡ record world.old { arena = world.new.arena } }
+        ensures uses { UsesStay world.old world.new }
         ensures sound { IsMachine world.new self.new.stack }
         ensures goes { GoesOn self.new.stack }
         ensures code { self.new.code ≡ self.old.code }
@@ -100,6 +102,8 @@ impl Machine {
         requires goes { GoesOn self.old.stack }
         requires from { HasRegister self.old.stack from }
         ensures makes { (chunk : ChunkOf) (words : List ℕ) → Makes (row chunk words (CloseUpvalues from) next) world.old self.old.code self.old.stack world.new self.new.stack }
+        ensures world { world.new ≡ record world.old { arena = world.new.arena } }
+        ensures uses { UsesStay world.old world.new }
         ensures sound { IsMachine world.new self.new.stack }
         ensures goes { GoesOn self.new.stack }
         ensures code { self.new.code ≡ self.old.code }
@@ -182,6 +186,8 @@ impl Machine {
         requires empty { values.old.items ≡ [] }
         ensures makes { OnOk result ((chunk : ChunkOf) (words : List ℕ) (next : ℕ) → MakesTo (row chunk words (Return base count) next) world.old self.old.code self.old.stack (Hand (map (meant world.old.names) values.new.items)) world.new self.new.stack) }
         ensures sound { IsMachine world.new self.new.stack }
+        ensures world { world.new ≡ record world.old { arena = world.new.arena } }
+        ensures uses { UsesStay world.old world.new }
         ensures usable { OnOk result (AllByRecursion (MayUseIn world.new) values.new.items) }
         ensures top { OnOk result (self.new.stack.top ≡ 0) }
         ensures code { self.new.code ≡ self.old.code }

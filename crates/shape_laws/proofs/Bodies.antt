@@ -17,19 +17,19 @@ use Rattle.node_code.specs.Code as code
 use Rattle.shape_laws.specs.Order.{Nothing}
 use Rattle.shape_laws.specs.Jumps.{Among, Await, Ahead, Around}
 use Rattle.shape_laws.proofs.Simple as insns
-use Rattle.shape_laws.proofs.Simple.{simple_by, plain_by, Simple}
+use Rattle.shape_laws.proofs.Simple.{simple_by, insn_by, Simple}
 use Rattle.shape_laws.proofs.States.{Frame, awaiting, placing, State, simple, onward, ahead, back, place, await, mark, unmark, loop_end, variable}
 use Rattle.shape_laws.proofs.Uses.{Good, moves, joins, loads_number, operand_good, name_good, assign_to_good, close_good, ended_good}
 use Rattle.shape_laws.proofs.Operators.{operate_good}
 
 jumps_back_insn : Simple (i.JumpBack (pos 0))
-jumps_back_insn = simple_by _ refl refl refl refl refl refl refl refl refl
+jumps_back_insn = simple_by _ refl refl refl refl refl refl refl refl refl refl
 
 prepares : (a : ℕ) → Simple (i.ForNPrep a (pos 0))
-prepares a = simple_by _ refl refl refl refl refl refl refl refl refl
+prepares a = simple_by _ refl refl refl refl refl refl refl refl refl refl
 
 turns : (a : ℕ) → Simple (i.ForNLoop a (pos 0))
-turns a = simple_by _ refl refl refl refl refl refl refl refl refl
+turns a = simple_by _ refl refl refl refl refl refl refl refl refl refl
 
 -- where a statement stands in a loop, the loop's ends are awaited
 abbrev pub Exits : Frame → Bool → Loop → Type 0

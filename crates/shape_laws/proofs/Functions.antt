@@ -16,11 +16,11 @@ use Rattle.link_laws.proofs.Items.{words_insn}
 use Rattle.node_code.specs.Nodes.{StatCode, FuncCode}
 use Rattle.node_code.specs.Code as code
 use Rattle.shape_laws.specs.Order.{Nothing, Captures, captures, count_at}
-use Rattle.shape_laws.specs.Named.{Plain}
+use Rattle.shape_laws.specs.Named.{PlainItem}
 use Rattle.shape_laws.specs.Shaped.{IsChild, AreChildren, IsShaped, AreShaped}
 use Rattle.shape_laws.proofs.Lists.{get_last, body_last, constants_more, shaped_last, children_more, children_last, children_length, prefix_length}
 use Rattle.shape_laws.proofs.Walking.{walk_last, walk_more, jumps_insn}
-use Rattle.shape_laws.proofs.Simple.{plain_by}
+use Rattle.shape_laws.proofs.Simple.{insn_by}
 use Rattle.shape_laws.proofs.States.{Frame, Full, State, insn, seen_more}
 use Rattle.shape_laws.proofs.Uses.{declared_good}
 use Rattle.shape_laws.proofs.Bodies.{Stats, stats_good}
@@ -101,8 +101,8 @@ module _ (b : Bindings) where
         captures = refl;
       }
 
-  closure_plain : (a : ℕ) (z : ℤ) (consts : _) → Plain consts (i.NewClosure a z)
-  closure_plain a z consts = plain_by _ _ refl refl refl refl
+  closure_plain : (a : ℕ) (z : ℤ) (consts : _) → PlainItem consts (item.Insn (i.NewClosure a z))
+  closure_plain a z consts = insn_by _ _ refl refl refl refl refl refl
 
   -- the closure is made, and owes its captures
   made_good : (k : Frame) (to : ℕ) (p : Prototype) (d inside : Emitter) → Prefix d.protos inside.protos → Prefix d.strings inside.strings
@@ -151,8 +151,8 @@ module _ (b : Bindings) where
   captures_good p k (n ∷ ks) d f = captures_good p k ks (names.capture b n d) (which (names.register_in n d.draft.variables))
     where
       which : (o : Option ℕ) → Full b (p ∷ []) k (captures (length ks)) (names.capture_of b n o d)
-      which (Some r) = insn b (p ∷ []) k (Captures (length ks)) (captures (length ks)) _ d (λ cs. refl) (λ low. plain_by _ _ refl refl refl refl) f
-      which None = insn b (p ∷ []) k (Captures (length ks)) (captures (length ks)) _ d (λ cs. refl) (λ low. plain_by _ _ refl refl refl refl) f
+      which (Some r) = insn b (p ∷ []) k (Captures (length ks)) (captures (length ks)) _ d (λ cs. refl) (λ low. insn_by _ _ refl refl refl refl refl refl) f
+      which None = insn b (p ∷ []) k (Captures (length ks)) (captures (length ks)) _ d (λ cs. refl) (λ low. insn_by _ _ refl refl refl refl refl refl) f
 
   added_good : (p : Prototype) (k : Frame) (d : Emitter) → Full b (p ∷ []) k Nothing d → State b k Nothing (puts.with_prototype p d)
   unfolding with_prototype
@@ -195,7 +195,7 @@ module _ (b : Bindings) where
       let f1 = begun_good vararg params id d f.protos in
       let f2 = declared_good b k0 (names.first_at b id) 0 params d1 f1 in
       let f3 = stats_good b false body h k0 params code.no_loop d2 (λ e. cc) f2 in
-      let f4 = insn b [] k0 Nothing Nothing (i.Return 0 1) d3 (λ cs. refl) (λ low. plain_by _ _ refl refl refl refl) f3 in
+      let f4 = insn b [] k0 Nothing Nothing (i.Return 0 1) d3 (λ cs. refl) (λ low. insn_by _ _ refl refl refl refl refl refl) f3 in
       let p = puts.done params vararg d4.draft in
       let ups = names.upvalues_at b d4.draft.func in
       let o2 = puts.with_child (length d4.protos) (puts.insn (i.NewClosure to (puts.short (length d.draft.children))) (puts.with_draft d.draft d4)) in

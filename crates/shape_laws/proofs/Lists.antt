@@ -10,6 +10,7 @@ use Rattle.byte_text.specs.declared.fixed.StrId.{StrId}
 use Rattle.op_words.specs.declared.chunk.Const.{Const}
 use Rattle.op_words.specs.declared.chunk.Const.TheVariants as constant
 use Rattle.op_words.specs.contracts.chunk.ConstPartialEq.TheImpl.{ghosts}
+use Rattle.op_words.specs.declared.insn.Insn.{Insn}
 use Rattle.code_link.specs.declared.item.Item.{Item}
 use Rattle.code_link.specs.declared.item.Item.TheVariants as item
 use Rattle.syntax_tree.specs.declared.bindings.Bindings.{Bindings}
@@ -19,7 +20,7 @@ use Rattle.emit_expr.specs.declared.draft.Prototype.{Prototype}
 use Rattle.emit_expr.specs.Puts.{place_of, place_of_text, added}
 use Rattle.emit_laws.specs.Growing.{Prefix}
 use Rattle.shape_laws.specs.Jumps.{Among}
-use Rattle.shape_laws.specs.Named.{const_at, holds, PlainItem, AllPlain, Body, IsConstant, AreConstants}
+use Rattle.shape_laws.specs.Named.{Plain, const_at, holds, PlainItem, AllPlain, Body, IsConstant, AreConstants}
 use Rattle.shape_laws.specs.Shaped.{IsChild, AreChildren, IsShaped, AreShaped}
 
 -- ---- elements
@@ -139,15 +140,13 @@ holds_more consts more (k ∷ ks) e =
     (const_front consts more k.1 k.0 (first_of (holds consts k) (list_all (holds consts) ks) e))
     (holds_more consts more ks (second_of (holds consts k) (list_all (holds consts) ks) e))
 
+plain_more : (consts more : List Const) (i : Insn) → Plain consts i → Plain (consts ++ more) i
+plain_more consts more i p =
+    record { known = p.known; own = p.own; finds = holds_more consts more (needs.constants_of i) p.finds; other = p.other; single = p.single }
+
 item_more : (consts more : List Const) (x : Item) → PlainItem consts x → PlainItem (consts ++ more) x
-item_more consts more (item.Insn i) p = record { known = p.known; own = p.own; finds = holds_more consts more (needs.constants_of i) p.finds; other = p.other }
-item_more consts more (item.Branch i l) p = record {
-  known = p.known;
-  own = p.own;
-  finds = holds_more consts more
-      (needs.constants_of i) p.finds;
-  other = p.other;
-}
+item_more consts more (item.Insn i) p = (plain_more consts more i p.0, p.1)
+item_more consts more (item.Branch i l) p = plain_more consts more i p
 item_more consts more (item.Label l) p = tt
 
 all_more : (consts more : List Const) (is : List Item) → AllPlain consts is → AllPlain (consts ++ more) is

@@ -25,7 +25,7 @@ use Rattle.node_code.specs.Code as code
 use Rattle.shape_laws.specs.Order.{Nothing, AWord}
 use Rattle.shape_laws.specs.Jumps.{Among, Ahead}
 use Rattle.shape_laws.proofs.Simple as insns
-use Rattle.shape_laws.proofs.Simple.{simple_by, plain_by, Simple, Onward, free_step}
+use Rattle.shape_laws.proofs.Simple.{simple_by, insn_by, Simple, Onward, free_step}
 use Rattle.shape_laws.proofs.States.{Frame, awaiting, owing, State, insn, spend, simple, onward, place, await, new_constant, found, keep, unkeep, keeping, constant_there}
 use Rattle.shape_laws.proofs.Uses.{Good, ends, operand_good, name_good, number_run_good}
 
@@ -147,9 +147,9 @@ module _ (b : Bindings) where
           let d1 = conditions.compare_jump z x y true to l d in
           let f1 = compare_good z (awaiting (Ahead l) k) true to l d (inl refl) (await b k (Ahead l) Nothing d f) in
           let d2 = puts.insn (i.LoadB to 0 1) d1 in
-          let f2 = insn b [] (awaiting (Ahead l) k) Nothing AWord (i.LoadB to 0 1) d1 (λ cs. refl) (λ low. plain_by _ _ refl refl refl refl) f1 in
+          let f2 = insn b [] (awaiting (Ahead l) k) Nothing AWord (i.LoadB to 0 1) d1 (λ cs. refl) (λ low. insn_by _ _ refl refl refl refl refl refl) f1 in
           let f3 = place b k l AWord d2 refl f2 in
-          insn b [] k AWord Nothing (i.LoadB to 1 0) (puts.place l d2) (λ cs. refl) (λ low. plain_by _ _ refl refl refl refl) f3
+          insn b [] k AWord Nothing (i.LoadB to 1 0) (puts.place l d2) (λ cs. refl) (λ low. insn_by _ _ refl refl refl refl refl refl) f3
 
       comparison_good : (z : BinOp) → Good b (nodes.decided id (conditions.compare_run z x y id) (conditions.compare_jump z x y))
       comparison_good z = decided_good id (conditions.compare_run z x y id) (conditions.compare_jump z x y) (compare_run_good z) (compare_good z)

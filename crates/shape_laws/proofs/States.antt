@@ -22,11 +22,11 @@ use Rattle.emit_laws.proofs.Grows as grows
 use Rattle.link_laws.proofs.Items.{words_insn, words_branch, words_label}
 use Rattle.shape_laws.specs.Order.{Owed, Nothing, past_label, step, walk}
 use Rattle.shape_laws.specs.Jumps.{Among, Await, Ahead, Around, awaited, Jumps}
-use Rattle.shape_laws.specs.Named.{Plain, Body, IsConstant, AreConstants}
+use Rattle.shape_laws.specs.Named.{PlainItem, Body, IsConstant, AreConstants}
 use Rattle.shape_laws.specs.Shaped.{AreChildren, AreShaped}
 use Rattle.shape_laws.proofs.Lists.{body_last, body_more, get_front, get_within, found_first, found_text, is_added, one_added, constants_added, constants_more, shaped_more, prefix_length}
 use Rattle.shape_laws.proofs.Walking.{walk_last, seen, seen_both, jumps_insn, jumps_ahead, jumps_back, jumps_label, jumps_end, jumps_await}
-use Rattle.shape_laws.proofs.Simple.{Simple, free_step, simple_plain, Onward, one_wanted}
+use Rattle.shape_laws.proofs.Simple.{Simple, Calm, free_step, simple_plain, calm_plain, insn_by, Onward, one_wanted}
 
 -- What is known of the function around: the labels that are placed, what is pending, the places of some constants, by how many the
 -- constants are more than the words, and how the function begins
@@ -89,7 +89,8 @@ module _ (b : Bindings) where
 
   module _ (later : List Prototype) (k k' : Frame) (same : k'.pending ≡ k.pending) (held : k'.placed ≡ k.placed) (still : k'.kept ≡ k.kept)
       (is_vararg : k'.vararg ≡ k.vararg) (is_params : k'.params ≡ k.params) (less : k.credit ≤ k'.credit + 1) where
-    put : (o q : Owed) (x : Insn) (d : Emitter) → ((cs : List ℕ) → step cs o x ≡ Some q) → (length d.draft.constants < 2 ^ 15 → Plain d.draft.constants x)
+    put : (o q : Owed) (x : Insn) (d : Emitter) → ((cs : List ℕ) → step cs o x ≡ Some q) → (length d.draft.constants < 2 ^ 15
+        → PlainItem d.draft.constants (item.Insn x))
         → Full b later k o d → Full b later k' q (puts.insn x d)
     unfolding put_item
     put o q x d s p f =
@@ -115,16 +116,16 @@ module _ (b : Bindings) where
         }
 
   pub insn : (later : List Prototype) (k : Frame) (o q : Owed) (x : Insn) (d : Emitter) → ((cs : List ℕ) → step cs o x ≡ Some q)
-      → (length d.draft.constants < 2 ^ 15 → Plain d.draft.constants x) → Full b later k o d → Full b later k q (puts.insn x d)
+      → (length d.draft.constants < 2 ^ 15 → PlainItem d.draft.constants (item.Insn x)) → Full b later k o d → Full b later k q (puts.insn x d)
   insn later k o q x d s p f = put later k k refl refl refl refl refl (omega arith) o q x d s p f
 
   -- the word of an instruction makes up for a constant
   pub spend : (k : Frame) (o q : Owed) (x : Insn) (d : Emitter) → ((cs : List ℕ) → step cs o x ≡ Some q)
-      → (length d.draft.constants < 2 ^ 15 → Plain d.draft.constants x) → State b (owing k) o d → State b k q (puts.insn x d)
+      → (length d.draft.constants < 2 ^ 15 → PlainItem d.draft.constants (item.Insn x)) → State b (owing k) o d → State b k q (puts.insn x d)
   spend k o q x d s p f = put [] (owing k) k refl refl refl refl refl (omega arith) o q x d s p f
 
-  pub simple : (k : Frame) (x : Insn) (d : Emitter) → Simple x → State b k Nothing d → State b k Nothing (puts.insn x d)
-  simple k x d s f = insn [] k Nothing Nothing x d (free_step x s.free) (λ low. simple_plain x s d.draft.constants) f
+  pub simple : (k : Frame) (x : Insn) (d : Emitter) → Calm x → State b k Nothing d → State b k Nothing (puts.insn x d)
+  simple k x d s f = insn [] k Nothing Nothing x d (free_step x s.simple.free) (λ low. calm_plain x s d.draft.constants) f
 
   branch : (k : Frame) (x : Insn) (l : ℕ) (d : Emitter) → Simple x → Jumps [] k.pending (d.draft.items ++ item.Branch x l ∷ []) → State b k Nothing d
       → State b k Nothing (puts.branch x l d)
@@ -394,13 +395,13 @@ module _ (b : Bindings) where
   -- ---- instructions that name one
 
   pub load_plain : (consts : List Const) (c : Const) (n a : ℕ) → is_wanted needs.AValue (Some c) ≡ true → Found c n consts
-      → Plain consts (i.LoadK a (puts.short n))
+      → PlainItem consts (item.Insn (i.LoadK a (puts.short n)))
   load_plain consts c n a value f =
       let few = f.few in
       let same : min n 32767 ≡ n = omega (arith, few) in
       let e : is_wanted needs.AValue (slice_get consts (min n 32767)) ≡ true = ap (λ m. is_wanted needs.AValue (slice_get consts m)) same ∙ ap
       (is_wanted needs.AValue) f.at ∙ value in
-      record { known = refl; own = refl; finds = one_wanted consts needs.AValue (min n 32767) e; other = refl }
+      insn_by consts _ refl refl (one_wanted consts needs.AValue (min n 32767) e) refl refl refl
 
   name_at : (consts : List Const) (s n : ℕ) → Found (constant.Str s) n consts → is_wanted needs.AName (slice_get consts (puts.long n)) ≡ true
   name_at consts s n f =
@@ -408,20 +409,10 @@ module _ (b : Bindings) where
       let same : min n 4294967295 ≡ n = omega (arith, few) in
       ap (λ m. is_wanted needs.AName (slice_get consts m)) same ∙ ap (is_wanted needs.AName) f.at
 
-  pub get_global_plain : (consts : List Const) (s n a : ℕ) → Found (constant.Str s) n consts → Plain consts (i.GetGlobal a (puts.long n))
-  get_global_plain consts s n a f = record {
-    known = refl;
-    own = refl;
-    finds = one_wanted consts needs.AName (puts.long n)
-        (name_at consts s n f);
-    other = refl;
-  }
+  pub get_global_plain : (consts : List Const) (s n a : ℕ) → Found (constant.Str s) n consts → PlainItem consts (item.Insn (i.GetGlobal a (puts.long n)))
+  get_global_plain consts s n a f = insn_by consts _ refl refl (one_wanted consts needs.AName (puts.long n)
+      (name_at consts s n f)) refl refl refl
 
-  pub set_global_plain : (consts : List Const) (s n a : ℕ) → Found (constant.Str s) n consts → Plain consts (i.SetGlobal a (puts.long n))
-  set_global_plain consts s n a f = record {
-    known = refl;
-    own = refl;
-    finds = one_wanted consts needs.AName (puts.long n)
-        (name_at consts s n f);
-    other = refl;
-  }
+  pub set_global_plain : (consts : List Const) (s n a : ℕ) → Found (constant.Str s) n consts → PlainItem consts (item.Insn (i.SetGlobal a (puts.long n)))
+  set_global_plain consts s n a f = insn_by consts _ refl refl (one_wanted consts needs.AName (puts.long n)
+      (name_at consts s n f)) refl refl refl

@@ -5,6 +5,7 @@ use Rattle.byte_text.specs.declared.fixed.StrId.{StrId}
 use Rattle.op_words.specs.declared.chunk.Const.TheVariants as constant
 use Rattle.op_words.specs.declared.insn.Insn.{Insn}
 use Rattle.op_words.specs.declared.insn.Insn.TheVariants as i
+use Rattle.code_link.specs.declared.item.Item.TheVariants as item
 use Rattle.syntax_tree.specs.declared.bindings.Bindings.{Bindings}
 use Rattle.syntax_tree.specs.declared.bindings.Bound.{Bound}
 use Rattle.syntax_tree.specs.declared.bindings.Bound.TheVariants as bound
@@ -19,34 +20,34 @@ use Rattle.node_code.specs.Nodes.{ExprCode, ChoiceCode, Target, NoTarget, Named}
 use Rattle.node_code.specs.Lists as lists
 use Rattle.shape_laws.specs.Order.{Owed, Nothing, AList, step}
 use Rattle.shape_laws.specs.Jumps.{Among, Ahead}
-use Rattle.shape_laws.specs.Named.{Plain}
-use Rattle.shape_laws.proofs.Simple.{simple_by, plain_by, free_by, Simple}
+use Rattle.shape_laws.specs.Named.{PlainItem}
+use Rattle.shape_laws.proofs.Simple.{calm_by, insn_by, Calm}
 use Rattle.shape_laws.proofs.States.{Frame, State, insn, spend, simple, variable, forgotten, new_constant, text, found, found_string, load_plain, get_global_plain, set_global_plain}
 
 -- instructions of one kind
-pub moves : (a c : ℕ) → Simple (i.Move a c)
-moves a c = simple_by _ refl refl refl refl refl refl refl refl refl
+pub moves : (a c : ℕ) → Calm (i.Move a c)
+moves a c = calm_by _ refl refl refl refl refl refl refl refl refl refl refl
 
-pub loads_nil : (a : ℕ) → Simple (i.LoadNil a)
-loads_nil a = simple_by _ refl refl refl refl refl refl refl refl refl
+pub loads_nil : (a : ℕ) → Calm (i.LoadNil a)
+loads_nil a = calm_by _ refl refl refl refl refl refl refl refl refl refl refl
 
-pub loads_bool : (a v : ℕ) → Simple (i.LoadB a v 0)
-loads_bool a v = simple_by _ refl refl refl refl refl refl refl refl refl
+pub loads_bool : (a v : ℕ) → Calm (i.LoadB a v 0)
+loads_bool a v = calm_by _ refl refl refl refl refl refl refl refl refl refl refl
 
-pub loads_number : (a : ℕ) (z : ℤ) → Simple (i.LoadN a z)
-loads_number a z = simple_by _ refl refl refl refl refl refl refl refl refl
+pub loads_number : (a : ℕ) (z : ℤ) → Calm (i.LoadN a z)
+loads_number a z = calm_by _ refl refl refl refl refl refl refl refl refl refl refl
 
-gets_upvalue : (a n : ℕ) → Simple (i.GetUpvalue a n)
-gets_upvalue a n = simple_by _ refl refl refl refl refl refl refl refl refl
+gets_upvalue : (a n : ℕ) → Calm (i.GetUpvalue a n)
+gets_upvalue a n = calm_by _ refl refl refl refl refl refl refl refl refl refl refl
 
-sets_upvalue : (a n : ℕ) → Simple (i.SetUpvalue a n)
-sets_upvalue a n = simple_by _ refl refl refl refl refl refl refl refl refl
+sets_upvalue : (a n : ℕ) → Calm (i.SetUpvalue a n)
+sets_upvalue a n = calm_by _ refl refl refl refl refl refl refl refl refl refl refl
 
-pub closes_upvalues : (a : ℕ) → Simple (i.CloseUpvalues a)
-closes_upvalues a = simple_by _ refl refl refl refl refl refl refl refl refl
+pub closes_upvalues : (a : ℕ) → Calm (i.CloseUpvalues a)
+closes_upvalues a = calm_by _ refl refl refl refl refl refl refl refl refl refl refl
 
-pub joins : (a c e : ℕ) → c < e → Simple (i.Concat a c e)
-joins a c e lt = record { free = free_by _ refl refl refl refl refl; known = refl; own = grind (arith, nat_tests, lt); wants = refl; other = refl }
+pub joins : (a c e : ℕ) → c < e → Calm (i.Concat a c e)
+joins a c e lt = calm_by _ refl refl refl refl refl refl (grind (arith, nat_tests, lt)) refl refl refl refl
 
 -- what is owed behind an expression all of whose values are made
 abbrev pub ends : (many : Bool) → (to : ℕ) → Owed
@@ -93,7 +94,8 @@ module _ (b : Bindings) where
   -- an instruction that takes the list, whatever it owes itself
   pub takes_list : (k : Frame) (es : List ExprCode) (at : ℕ) (q : Owed) (x : ℕ → Insn) (d : Emitter) → ((cs : List ℕ) (from : ℕ) → at ≤ from
       → step cs (AList from) (x 0) ≡ Some q)
-      → ((cs : List ℕ) (n : ℕ) → step cs Nothing (x (suc n)) ≡ Some q) → ((n : ℕ) → Plain d.draft.constants (x n)) → ListEnd k (lists.last_from false es) at d
+      → ((cs : List ℕ) (n : ℕ) → step cs Nothing (x (suc n)) ≡ Some q) → ((n : ℕ) → PlainItem d.draft.constants (item.Insn (x n)))
+      → ListEnd k (lists.last_from false es) at d
       → State b k q (puts.insn (x (lists.count_of es)) d)
   takes_list k es at q x d takes closed plain f = which (lists.last_from false es) f
     where
@@ -113,14 +115,14 @@ module _ (b : Bindings) where
       → State b k Nothing (puts.insn (i.Return at (lists.count_of es)) d)
   returns_list k es at d f =
       takes_list k es at Nothing (λ n. i.Return at n) d (λ cs from le. ap (λ t. if t then Some Nothing else None) (within at from le)) (λ cs n. refl)
-      (λ n. plain_by _ _ refl refl refl refl) f
+      (λ n. insn_by _ _ refl refl refl refl refl refl) f
 
   call_some : (k : Frame) (es : List ExprCode) (to results : ℕ) (d : Emitter) → ListEnd k (lists.last_from false es) (to + 1) d
       → State b k Nothing (puts.insn (i.Call to (lists.count_of es) (suc results)) d)
   call_some k es to results d f =
       takes_list k es (to + 1) Nothing (λ n. i.Call to n (suc results)) d (λ cs from le. ap (λ t. if t then Some Nothing else None) (within (to + 1) from le))
       (λ cs n. refl)
-      (λ n. plain_by _ _ refl refl refl refl) f
+      (λ n. insn_by _ _ refl refl refl refl refl refl) f
 
   pub calls : (k : Frame) (es : List ExprCode) (to results : ℕ) (d : Emitter) → 1 ≤ results → ListEnd k (lists.last_from false es) (to + 1) d
       → State b k Nothing (puts.insn (i.Call to (lists.count_of es) results) d)
@@ -132,14 +134,14 @@ module _ (b : Bindings) where
   calls_open k es to d f =
       takes_list k es (to + 1) (AList to) (λ n. i.Call to n 0) d (λ cs from le. ap (λ t. if t then Some (AList to) else None) (within (to + 1) from le))
       (λ cs n. refl)
-      (λ n. plain_by _ _ refl refl refl refl) f
+      (λ n. insn_by _ _ refl refl refl refl refl refl) f
 
   pub varargs : (k : Frame) (to results : ℕ) (d : Emitter) → 1 ≤ results → State b k Nothing d → State b k Nothing (puts.insn (i.GetVarargs to results) d)
   varargs k to zero d some f = absurd (omega (arith, some))
-  varargs k to (suc n) d some f = insn b [] k Nothing Nothing (i.GetVarargs to (suc n)) d (λ cs. refl) (λ low. plain_by _ _ refl refl refl refl) f
+  varargs k to (suc n) d some f = insn b [] k Nothing Nothing (i.GetVarargs to (suc n)) d (λ cs. refl) (λ low. insn_by _ _ refl refl refl refl refl refl) f
 
   pub varargs_open : (k : Frame) (to : ℕ) (d : Emitter) → State b k Nothing d → State b k (AList to) (puts.insn (i.GetVarargs to 0) d)
-  varargs_open k to d f = insn b [] k Nothing (AList to) (i.GetVarargs to 0) d (λ cs. refl) (λ low. plain_by _ _ refl refl refl refl) f
+  varargs_open k to d f = insn b [] k Nothing (AList to) (i.GetVarargs to 0) d (λ cs. refl) (λ low. insn_by _ _ refl refl refl refl refl refl) f
 
   pub each_good : (es : List ExprCode) → Goods es → (k : Frame) (at : ℕ) (d : Emitter) → State b k Nothing d → State b k Nothing (lists.each_run es at d)
   each_good [] g k at d f = f

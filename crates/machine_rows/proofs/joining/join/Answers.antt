@@ -11,7 +11,7 @@ use Rattle.machine_world.specs.Sound.{IsMachine, Runs, GoesOn, HasRegister}
 use Rattle.machine_world.proofs.Going.{runs_on}
 use Rattle.machine_rows.specs.Leading.{looks, Does}
 use Rattle.machine_rows.specs.declared.next.Next.TheVariants.{Continues}
-use Rattle.machine_rows.proofs.Growing.{growth_self, growth_on, growth_machine, growth_keeps, growth_use}
+use Rattle.machine_rows.proofs.Growing.{growth_self, growth_on, growth_machine, growth_keeps, growth_use, later_usable}
 use Rattle.machine_rows.proofs.Joined.{joins_on, joins_out, joins_none}
 use Rattle.machine_rows.proofs.Operating.{usable_there}
 use Rattle.machine_rows.proofs.joining.join.Goals as goal
@@ -45,6 +45,7 @@ settle-done-requires c =
     record {
       sound = subst (λ (m : Machine). IsMachine (record w { names = names }) m.stack) (sym inv.same) (growth_machine w0 (record w { names = names }) grown k.stack c.requires.sound);
       runs = subst (λ (m : Machine). Runs m.stack) (sym inv.same) (runs_on k.stack c.requires.goes);
+      kind = later_usable w0 (record w { names = names }) grown c.requires.sound.world c.args.left.now c.in_ok-left-in_default.left c.loop-i.i c.in_ok-left-in_default.ensures c.requires.left;
       usable = (c.in_ok-outcome.ensures.joins w.owner own before inv.usable).usable;
     }
 

@@ -19,7 +19,7 @@ returns-clause-wakes c = λ x replies.
 
 pub returns-clause-sound : goal.returns-clause-sound
 returns-clause-sound c =
-    subst (IsMachine c.args.world.now) (sym c.set_kind.ensures) (keeps_expects c.args.world.now c.args.machine.now.stack Idle c.requires.runs c.requires.sound)
+    subst (IsMachine c.args.world.now) (sym c.set_kind.ensures) (keeps_expects c.args.world.now c.args.machine.now.stack Idle c.requires.runs tt c.requires.sound)
 
 pub returns-clause-goes : goal.returns-clause-goes
 returns-clause-goes c = subst GoesOn (sym c.set_kind.ensures) (goes_woken c.args.machine.now.stack c.requires.runs)

@@ -1,5 +1,6 @@
 use Rattle.std.proofs.Common.{◌∙◌, sym, ap, subst}
 use Rattle.value_arena.specs.Arenas.{ArenaView}
+use Rattle.luau_tables.proofs.OwnKept.{usable_on}
 use Rattle.call_frames.specs.Stacks.{StackView}
 use Rattle.call_frames.specs.Cells.{kept, closed}
 use Rattle.machine_world.specs.Parts.{part}
@@ -33,3 +34,8 @@ returns-clause-sound c =
 
 pub returns-clause-frames : goal.returns-clause-frames
 returns-clause-frames c = ap (λ (s : StackView). s.frames) c.close_from.ensures.stack
+
+pub returns-clause-uses : goal.returns-clause-uses
+returns-clause-uses c = λ v h.
+    let w = c.args.world.now in
+    usable_on w.names w.arena c.close_from.new.arena w.owner v c.close_from.ensures.grows h

@@ -1,4 +1,4 @@
-use Rattle.std.proofs.Common.{◌≡◌, ◌+◌, map, take, drop, Some, sym, ◌∙◌, ap, arith, ⊎_elim}
+use Rattle.std.proofs.Common.{◌≡◌, ◌+◌, map, take, drop, Some, sym, ◌∙◌, ap, arith}
 use Rattle.value_model.specs.Parts.{meant}
 use Rattle.call_frames.specs.Cells.{innermost}
 use Rattle.machine_world.specs.Parts.{span}
@@ -11,8 +11,8 @@ overflow_add-at c =
     let f = c.in-Some.frame.now in
     let e : innermost s ≡ Some f = sym c.in-Some.ensures in
     let end = c.end-end.type_inv in
-    let top = c.top-top.type_inv in
-    ⊎_elim (λ le. omega (arith, le, c.from.ensures, c.end-end.ensures.value, end)) (λ le. omega (arith, le, c.from.ensures, c.top-top.ensures, top)) (list_place s f c.args.count c.args.from e c.requires.has)
+    let le = list_place s f c.args.count c.args.from e c.requires.has in
+    omega (arith, le, c.from.ensures, c.end-end.ensures.value, end)
 
 pub values-requires : goal.values-requires
 values-requires c =

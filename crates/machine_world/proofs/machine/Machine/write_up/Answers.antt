@@ -1,3 +1,4 @@
+use Rattle.luau_tables.proofs.OwnKept.{usable_on}
 use Rattle.machine_world.proofs.Upvalues.{up_frames}
 use Rattle.machine_world.proofs.Upvalues.{part_write_up, keeps_write_up, is_there, runs_up}
 use Rattle.machine_world.proofs.machine.Machine.write_up.Goals as goal
@@ -18,3 +19,8 @@ returns-clause-sound c =
 
 pub returns-clause-frames : goal.returns-clause-frames
 returns-clause-frames c = up_frames c.args.self.now.stack c.args.world.now.arena c.upvalue_cell-cell.result c.args.v (c.write_up.new.self, c.write_up.new.arena) c.write_up.ensures.written
+
+pub returns-clause-uses : goal.returns-clause-uses
+returns-clause-uses c = λ v h.
+    let w = c.args.world.now in
+    usable_on w.names w.arena c.write_up.new.arena w.owner v c.write_up.ensures.grows h

@@ -1,0 +1,22 @@
+use Rattle.std.proofs.Common.{subst}
+use Rattle.luau_cli.specs.Answer.{WritesChunk}
+use Rattle.luau_cli.specs.Refusals.{not_compiled}
+use Rattle.luau_cli.specs.Readings.{IsReadingOf}
+use Rattle.luau_cli.proofs.Bindings.{sound}
+use Rattle.luau_cli.proofs.Outcomes.{answers_refused, answers_accepted}
+use Rattle.luau_cli.proofs.chunks.reply_to_compile.Goals as goal
+
+pub returns-in-Refused-clause-answers : goal.returns-in-Refused-clause-answers
+returns-in-Refused-clause-answers c =
+    let is = subst (λ r. IsReadingOf c.args.source.now r) c.in-Refused.is c.in_ok-why.ensures in
+    answers_refused not_compiled WritesChunk c.args.source.now c.in-Refused.why c.refused.result is c.refused.ensures
+
+pub compile_script-requires : goal.compile_script-requires
+compile_script-requires c =
+    let read = subst (λ r. IsReadingOf c.args.source.now r) c.in-Accepted.is c.in_ok-why.ensures in
+    sound c.args.source.now c.in-Accepted.script read
+
+pub returns-in-Accepted-clause-answers : goal.returns-in-Accepted-clause-answers
+returns-in-Accepted-clause-answers c =
+    let read = subst (λ r. IsReadingOf c.args.source.now r) c.in-Accepted.is c.in_ok-why.ensures in
+    answers_accepted not_compiled WritesChunk c.args.source.now c.in-Accepted.script c.compile_script.result read c.compile_script.ensures.answers
