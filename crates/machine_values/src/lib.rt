@@ -3,5 +3,7 @@
 
 mod giving;
 mod kinds;
+mod laws;
 
 pub use giving::give;
+pub use laws::safe_is_ready;
