@@ -1,14 +1,10 @@
 -- Library functions that wait for the values of a call.
-use Rattle.std.proofs.Common.{◌≡◌, ℕ, ◌-◌, ◌<◌, List, [], ◌∷◌, ◌++◌, reverse, replicate, map, length, take, slice_get, Option, Some, None, IsSomeAnd, refl, sym, ◌∙◌, ap, subst, arith}
-use Rattle.std.specs.List.{AllByRecursion}
+use Rattle.std.proofs.Common.{◌≡◌, ◌-◌, ◌<◌, List, [], ◌∷◌, ◌++◌, reverse, length, slice_get, Some, None, IsSomeAnd, refl, sym, ◌∙◌, ap, subst, arith}
 use Rattle.std.specs.Option.{option_map_or}
 use Rattle.value_model.specs.Values as m
-use Rattle.value_model.specs.Waits as wait
 use Rattle.value_model.specs.declared.event.Reply.{Reply}
-use Rattle.value_model.specs.declared.value.Value.{Value}
 use Rattle.value_arena.specs.declared.closure.Closure.{Closure}
 use Rattle.value_arena.specs.Arenas.{ArenaView, objects_of}
-use Rattle.luau_tables.specs.Worlds.{MayUseIn}
 use Rattle.luau_tables.specs.declared.globals.LibWorld.{LibWorld}
 use Rattle.call_frames.specs.declared.frame.Frame.{Frame}
 use Rattle.call_frames.specs.declared.frame.ReturnKind.{ReturnKind}
@@ -20,7 +16,7 @@ use Rattle.machine_meaning.specs.States.{Focus}
 use Rattle.machine_code.specs.declared.code.Code.{Code}
 use Rattle.machine_world.specs.Functions.{with_function, running, waiting, functions_of, laid, kept_cells, cells_of, wait_by}
 use Rattle.machine_world.specs.Parts.{world_with, state_with, part, awaited, over, Becomes}
-use Rattle.machine_world.specs.Sound.{cell_count, AreOwn, IsFunctionOf, MayWaitInLibrary, MayWait, IsLibrary, LibraryWaits, LibraryWaitsFor, IsMachine}
+use Rattle.machine_world.specs.Sound.{cell_count, IsFunctionOf, MayWaitInLibrary, MayWait, IsLibrary, LibraryWaits, LibraryWaitsFor, IsMachine}
 use Rattle.machine_world.proofs.Laid.{laid_kept}
 use Rattle.machine_world.proofs.Registers.{register_low}
 use Rattle.machine_world.proofs.Frames.{lies, waiting_same, below_reverse, of_frame}

@@ -1,5 +1,5 @@
 -- What frames may wait for.
-use Rattle.std.proofs.Common.{◌≡◌, ℕ, ◌<◌, ◌≤◌, List, [], ◌∷◌, length, Option, Some, None, IfSome, refl, sym, subst, arith}
+use Rattle.std.proofs.Common.{◌≡◌, ◌<◌, ◌≤◌, List, [], ◌∷◌, length, Option, Some, None, IfSome, sym, subst, arith}
 use Rattle.std.specs.List.{AllByRecursion}
 use Rattle.byte_text.specs.declared.fixed.StrId.{StrId}
 use Rattle.value_model.specs.declared.ids.ClosureId.{ClosureId}
