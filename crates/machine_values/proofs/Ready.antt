@@ -55,7 +55,8 @@ place_low chunk texts code n t p of there short i =
 
 -- ---- by what the function waits for
 
-module _ (s : StackView) (f : Frame) (found : innermost s ≡ Some f) (luau : IsLuau f) (p : ProtoOf) (size : f.registers ≡ p.registers) (low : (t : ℕ) → IsPlace p t → t < 2 ^ 64) where
+module _ (s : StackView) (f : Frame) (found : innermost s ≡ Some f) (luau : IsLuau f) (p : ProtoOf) (size : f.registers ≡ p.registers)
+    (low : (t : ℕ) → IsPlace p t → t < 2 ^ 64) where
   innermost_has : (P : Frame → Type 0) → P f → IsSomeAnd (innermost s) P
   innermost_has P h = subst (λ q. IsSomeAnd q P) (sym found) h
 
@@ -172,5 +173,8 @@ safe_ready chunk w code s vs replies of is short safe =
     let proto : proto_at chunk (proto_here w code s) ≡ Some k.code = subst (λ q. proto_at chunk q ≡ Some k.code) h.proto k.is.code in
     let awaits : Awaits k.code n (place_here s) (purpose_of w.names h.entry.kind) =
     subst (Awaits k.code n (place_here s)) h.purpose (subst (λ q. Awaits k.code n q h.frame.purpose) h.place k.holds) in
-    subst (λ q. IsSomeAnd q (λ f. IsLuau f × IsReadyFor s f.kind)) (sym h.found)
-    (luau, ready_for s h.entry h.found luau k.code size (λ t. place_low chunk w.names code (proto_here w code s) t k.code of proto short) w.names n h.entry.kind awaits)
+    subst (λ q. IsSomeAnd q (λ f. IsLuau f × IsReadyFor s f.kind)) (sym h.found) (
+      luau,
+      ready_for s h.entry h.found luau k.code size (λ t. place_low chunk w.names code (proto_here w code s) t k.code of proto short)
+          w.names n h.entry.kind awaits,
+    )
