@@ -1,8 +1,11 @@
 -- In a safe state the function that is to be given values has all that it needs.
-use Rattle.std.proofs.Common.{◌≡◌, ℕ, ℤ, ◌+◌, ◌<◌, ◌≤◌, ◌^◌, List, ◌∷◌, length, reverse, slice_get, Some, IsSomeAnd, sym, ◌∙◌, ap, subst, arith}
+use Rattle.std.proofs.Common.{◌≡◌, ℕ, ℤ, ◌+◌, ◌<◌, ◌≤◌, ◌^◌, List, ◌∷◌, length, reverse, slice_get, Some, IsSomeAnd, sym, ◌∙◌, ap, subst, arith, Option, None, [], refl, map}
 use Rattle.std.proofs.lemmas.List.{length-map}
 use Rattle.value_model.specs.Values.{Bytes}
+use Rattle.value_model.specs.Store as store
+use Rattle.value_model.specs.Waits as wait
 use Rattle.value_model.specs.Waits.{Wait}
+use Rattle.value_model.specs.declared.ids.ClosureId.{ClosureId}
 use Rattle.value_model.specs.declared.event.Reply.{Reply}
 use Rattle.value_arena.specs.declared.closure.Closure.{Closure}
 use Rattle.value_arena.specs.Arenas.{objects_of}
@@ -19,15 +22,18 @@ use Rattle.checked_runs.specs.Safe.{Sizes, Awaits, IsFrame, IsActive, IsSafe}
 use Rattle.checked_runs.proofs.Lines.{line_read}
 use Rattle.machine_meaning.specs.Chunks.{proto_at}
 use Rattle.machine_meaning.specs.States as machine
-use Rattle.machine_meaning.specs.States.{GiveAll, Run, State}
+use Rattle.machine_meaning.specs.States.{GiveAll, Run, Focus, State}
+use Rattle.machine_meaning.specs.Moves.{store_of}
 use Rattle.machine_code.specs.Code.{IsCodeOf}
 use Rattle.machine_code.specs.declared.code.Code.{Code}
 use Rattle.machine_code.specs.declared.code.Function.{Function}
 use Rattle.machine_code.proofs.Reading.{line_fetched}
-use Rattle.machine_world.specs.Functions.{text_of, purpose_of, waiting, running, functions_of}
-use Rattle.machine_world.specs.Parts.{part}
+use Rattle.machine_world.specs.Functions.{text_of, purpose_of, wait_by, wait_in, wait_of, waiting, running, functions_of}
+use Rattle.machine_world.specs.Parts.{part, waits_in}
 use Rattle.machine_world.specs.Rows.{place_here, proto_here}
-use Rattle.machine_world.specs.Sound.{IsLuau, Runs, HasRegister, Ahead, Back}
+use Rattle.machine_world.specs.Sound.{IsMachine, IsLuau, Runs, HasRegister, Ahead, Back}
+use Rattle.call_frames.proofs.Closing.{split_last}
+use Rattle.machine_world.proofs.Calling.{here_is, no_last, reverse_last}
 use Rattle.machine_world.proofs.Frames.{inner, of_frame, functions_split}
 use Rattle.machine_world.proofs.Here.{Here, here}
 use Rattle.machine_values.specs.Given.{IsReadyFor}
@@ -49,7 +55,8 @@ place_low chunk texts code n t p of there short i =
 
 -- ---- by what the function waits for
 
-module _ (s : StackView) (f : Frame) (found : innermost s ≡ Some f) (luau : IsLuau f) (p : ProtoOf) (size : f.registers ≡ p.registers) (low : (t : ℕ) → IsPlace p t → t < 2 ^ 64) where
+module _ (s : StackView) (f : Frame) (found : innermost s ≡ Some f) (luau : IsLuau f) (p : ProtoOf) (size : f.registers ≡ p.registers)
+    (low : (t : ℕ) → IsPlace p t → t < 2 ^ 64) where
   innermost_has : (P : Frame → Type 0) → P f → IsSomeAnd (innermost s) P
   innermost_has P h = subst (λ q. IsSomeAnd q P) (sym found) h
 
@@ -110,8 +117,53 @@ first_known chunk z P ws f fs a =
     let same : a.frame ≡ f = let d = a.functions in cc in
     subst (Known chunk z P) same (record { code = a.code; is = a.is; holds = a.holds })
 
+-- ---- who runs
+
+library_waits : (texts : List Bytes) (k : ReturnKind) (c : ℕ) → wait_by texts k ≡ wait.Runs c → ⊥
+library_waits texts (kind.Protected None) c e = cc
+library_waits texts (kind.Protected (Some h)) c e = cc
+library_waits texts kind.Handler c e = cc
+library_waits texts (kind.Library rest) c e = cc
+library_waits texts (kind.Coroutine wrapped) c e = cc
+library_waits texts kind.Idle c e = cc
+library_waits texts (kind.Call to results next) c e = cc
+library_waits texts (kind.Answer to next) c e = cc
+library_waits texts (kind.Store next) c e = cc
+library_waits texts (kind.Jump by wanted next) c e = cc
+library_waits texts (kind.Join to left next) c e = cc
+library_waits texts (kind.Import to names next) c e = cc
+library_waits texts (kind.Iterate base by) c e = cc
+library_waits texts (kind.Turn base variables by next) c e = cc
+
+luau_waits : (texts : List Bytes) (q : Option ClosureId) (k : ReturnKind) (c : ℕ) → wait_in texts q k ≡ wait.Runs c → IsSomeAnd q (λ c. Unit {0})
+luau_waits texts None k c e = absurd (library_waits texts k c e)
+luau_waits texts (Some i) k c e = tt
+
+-- where a function waits innermost, one runs
+runs_first : (w : LibWorld) (s : StackView) (c : ℕ) (rest : List Wait) → map (wait_of w.names) (reverse s.frames) ≡ wait.Runs c ∷ rest → Runs s
+runs_first w s c rest e = by (innermost s) refl
+  where
+    by : (q : Option Frame) → innermost s ≡ q → IsSomeAnd q IsLuau
+    by None none =
+        let empty : map (wait_of w.names) (reverse s.frames) ≡ [] = ap (λ fs. map (wait_of w.names) (reverse fs)) (no_last s.frames none) in absurd cc
+    by (Some f) is =
+        let split : map (wait_of w.names) (reverse s.frames) ≡ wait_of w.names f ∷ map (wait_of w.names) (reverse (outer s)) =
+        ap (λ fs. map (wait_of w.names) fs) (reverse_last s.frames (outer s) f (split_last s.frames f is)) in
+        let one : wait_of w.names f ≡ wait.Runs c = cc in
+        luau_waits w.names f.closure f.kind c one
+
+runs_active : (w : LibWorld) (code : Code) (s : StackView) (x : Focus) (replies : List Reply) (chunk : ChunkOf) (z : Sizes) (P : ProtoOf → machine.Frame → Type 0) →
+    IsMachine w s →
+    IsActive chunk z P (wait.waiting (part w code s x replies).world.waits (store.here (store_of (part w code s x replies).world))) (part w code s x replies).functions →
+    Runs s
+unfolding part
+runs_active w code s x replies chunk z P is a =
+    runs_first w s a.frame.closure a.rest (sym (ap (λ i. wait.waiting (waits_in w s.frames) i) (here_is w is.main)) ∙ a.waits)
+
 pub safe_ready : SafeIsReady
-safe_ready chunk w code s vs replies of runs short safe =
+unfolding part
+safe_ready chunk w code s vs replies of is short safe =
+    let runs = runs_active w code s (GiveAll vs) replies chunk safe.sizes _ is safe.doing.1 in
     let h = here w code s replies runs in
     let there : IsSafe chunk (record { focus = GiveAll vs; functions = h.frame ∷ h.others; world = h.world }) = subst (IsSafe chunk) (h.is (GiveAll vs)) safe in
     let n = there.sizes.functions in
@@ -121,5 +173,8 @@ safe_ready chunk w code s vs replies of runs short safe =
     let proto : proto_at chunk (proto_here w code s) ≡ Some k.code = subst (λ q. proto_at chunk q ≡ Some k.code) h.proto k.is.code in
     let awaits : Awaits k.code n (place_here s) (purpose_of w.names h.entry.kind) =
     subst (Awaits k.code n (place_here s)) h.purpose (subst (λ q. Awaits k.code n q h.frame.purpose) h.place k.holds) in
-    subst (λ q. IsSomeAnd q (λ f. IsLuau f × IsReadyFor s f.kind)) (sym h.found)
-    (luau, ready_for s h.entry h.found luau k.code size (λ t. place_low chunk w.names code (proto_here w code s) t k.code of proto short) w.names n h.entry.kind awaits)
+    subst (λ q. IsSomeAnd q (λ f. IsLuau f × IsReadyFor s f.kind)) (sym h.found) (
+      luau,
+      ready_for s h.entry h.found luau k.code size (λ t. place_low chunk w.names code (proto_here w code s) t k.code of proto short)
+          w.names n h.entry.kind awaits,
+    )

@@ -26,12 +26,13 @@ step_takes chunk w code s vs replies runs =
     let h = here w code s replies runs in ap (step chunk) (h.is (GiveAll vs)) ∙ sym (row_here h (takes vs))
 
 -- so what that row comes to is what giving them comes to
-pub receives_done : (chunk : ChunkOf) (w w' : LibWorld) (code : Code) (s s' : StackView) (kind : ReturnKind) (vs us : List Value) (n : ℕ) (x : Next) → WaitsFor s kind →
-    us ≡ vs → Does chunk (takes (map (meant w.names) us)) w code s n x w' s' → Receives chunk w code s vs n x w' s'
+pub receives_done : (chunk : ChunkOf) (w w' : LibWorld) (code : Code) (s s' : StackView) (kind : ReturnKind) (vs us : List Value) (n : ℕ) (x : Next) →
+    WaitsFor s kind → us ≡ vs → Does chunk (takes (map (meant w.names) us)) w code s n x w' s' → Receives chunk w code s vs n x w' s'
 unfolding Receives Does
 receives_done chunk w w' code s s' kind vs us n x waits same does = λ replies.
     subst (λ us. ComesTo chunk (step chunk (part w code s (GiveAll (map (meant w.names) us)) replies)) n x w' code s' replies) same
-    (subst (λ m. ComesTo chunk m n x w' code s' replies) (sym (step_takes chunk w code s (map (meant w.names) us) replies (runs_waiting s kind waits))) (does replies))
+    (subst (λ m. ComesTo chunk m n x w' code s' replies)
+    (sym (step_takes chunk w code s (map (meant w.names) us) replies (runs_waiting s kind waits))) (does replies))
 
 pub receives_made : (chunk : ChunkOf) (w w' : LibWorld) (code : Code) (s s' : StackView) (kind : ReturnKind) (vs us : List Value) → WaitsFor s kind → us ≡ vs →
     Makes (takes (map (meant w.names) us)) w code s w' s' → Receives chunk w code s vs 0 Continues w' s'

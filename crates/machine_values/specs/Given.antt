@@ -32,6 +32,18 @@ IsReadyFor s (kind.Iterate base by) = HasRegister s (base + 2) × Ahead (place_h
 IsReadyFor s (kind.Turn base variables by next) = HasRange s base (3 + variables) × Back (place_here s) by
 IsReadyFor s _ = ⊥
 
+-- a Luau function waits so for the values of a call
+abbrev pub IsAwaited : ReturnKind → Type 0
+IsAwaited (kind.Call to results next) = Unit {0}
+IsAwaited (kind.Answer to next) = Unit {0}
+IsAwaited (kind.Store next) = Unit {0}
+IsAwaited (kind.Jump by wanted next) = Unit {0}
+IsAwaited (kind.Join to left next) = Unit {0}
+IsAwaited (kind.Import to names next) = Unit {0}
+IsAwaited (kind.Iterate base by) = Unit {0}
+IsAwaited (kind.Turn base variables by next) = Unit {0}
+IsAwaited _ = ⊥
+
 -- a Luau function runs, and may be given values
 abbrev pub IsReady : StackView → Type 0
 IsReady s = IsSomeAnd (innermost s) (λ f. IsLuau f × IsReadyFor s f.kind)

@@ -11,12 +11,12 @@ use Rattle.machine_code.specs.Code.{IsCodeOf}
 use Rattle.machine_code.specs.declared.code.Code.{Code}
 use Rattle.machine_world.specs.Parts.{part}
 use Rattle.machine_world.specs.Rows.{proto_here}
-use Rattle.machine_world.specs.Sound.{Runs}
+use Rattle.machine_world.specs.Sound.{IsMachine}
 use Rattle.machine_values.specs.Given.{IsReady}
 
 -- In a safe state in which the function that runs is to be given values it has all that it needs. As for each list, its lines are fewer
 -- than the places that there are
 abbrev pub SafeIsReady : Type 0
 SafeIsReady = (chunk : ChunkOf) (w : LibWorld) (code : Code) (s : StackView) (vs : List m.Value) (replies : List Reply)
-    → IsCodeOf chunk w.names code → Runs s → IsSomeAnd (slice_get code.functions (proto_here w code s)) (λ f. length f.lines < 2 ^ 64)
+    → IsCodeOf chunk w.names code → IsMachine w s → IsSomeAnd (slice_get code.functions (proto_here w code s)) (λ f. length f.lines < 2 ^ 64)
     → IsSafe chunk (part w code s (GiveAll vs) replies) → IsReady s

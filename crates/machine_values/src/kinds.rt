@@ -2,7 +2,7 @@
 
 ghost use Rattle.std.specs.Prelude.{◌≡◌, IfOk};
 ghost use Rattle.machine_world.specs.Sound.{IsMachine, MayWaitInCode, WaitsFor};
-ghost use Rattle.machine_values.specs.Given.{IsReady, IsReadyFor};
+ghost use Rattle.machine_values.specs.Given.{IsAwaited, IsReady, IsReadyFor};
 
 use call_frames::ReturnKind;
 use luau_tables::LibWorld;
@@ -12,6 +12,7 @@ use sqlite_items::Items;
 use std::alloc::Global;
 
 /// What the function that runs waits for.
+#[tactic(auto, using(crate::proofs::Awaited::ready_awaited))]
 pub(crate) fn awaited(
     alloc: Global,
     machine: &Machine,
@@ -29,8 +30,9 @@ pub(crate) fn awaited(
     copy(alloc, &frame.kind)
 }
 
-// Copies what a Luau function waits for. Nothing else is copied.
+// Copies what a Luau function waits for.
 fn copy(alloc: Global, kind: &ReturnKind) -> Result<ReturnKind, OutOfMemory>
+    requires { IsAwaited kind.now }
     ensures { IfOk result (λ copied. copied ≡ kind.now) }
 {
     match kind {
@@ -80,6 +82,6 @@ fn copy(alloc: Global, kind: &ReturnKind) -> Result<ReturnKind, OutOfMemory>
             by: *by,
             next: *next,
         }),
-        _ => Err(OutOfMemory),
+        _ => unreachable!(),
     }
 }
