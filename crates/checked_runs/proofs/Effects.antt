@@ -17,7 +17,7 @@ use Rattle.op_words.specs.Chunks.{ChunkOf, ProtoOf}
 use Rattle.machine_meaning.specs.States.{Purpose, Idle, Results, Into, Compares, Joins, Follows, Stores, Begins, Turns, Frame, World, Inside, ended, set, set_all, adjusted}
 use Rattle.machine_meaning.specs.Moves.{inside, store_of, environment_here, first, rest, settle, jump, jump_back, return_to, branch}
 use Rattle.machine_meaning.specs.Effects.{index, newindex, calculate, compare, decided, follow, import_of, list_from, call, deliver, results, numbered, under, finished, answered, fast, with_bounds, begun, prepared, back, again, added, with_generator, iterated, ask, turned, join, follow_names, agrees, receive}
-use Rattle.checked_runs.specs.Places.{IsPlace, LeadsTo, LeadsOn}
+use Rattle.checked_runs.specs.Places.{IsPlace, LeadsTo, LeadsOn, LeadsBack}
 use Rattle.checked_runs.specs.Safe.{Sizes, IsMade, AreMade, Awaits, IsSafeMove, is_some_value}
 use Rattle.checked_runs.specs.Keeps.{Keeps, LibraryKeeps, AnswerStays}
 use Rattle.checked_runs.proofs.Settings.{Setting, frame_ended, with_frame, active, goes, faults, value_made, values_made, adjusted_made, first_made, rest_made, set_keeps, set_all_keeps, set_place, set_all_place, gives}
@@ -186,11 +186,12 @@ module _ {chunk : ChunkOf} {z : Sizes} {p : ProtoOf} {f : Frame} {fs : List Fram
   iterates (CallsIter g vs) a by m r l = record { sizes = z; world = s.world; doing = (m.0, m.1, waiting_frame s (Begins a by) (r, l)) }
   iterates (NotIterable e) a by m r l = faults s e
 
-  pub asks_generator : (a x : ℕ) (by : ℤ) (next : ℕ) → a + (3 + x) ≤ p.registers → LeadsTo p f.place by → IsPlace p next → IsSafeMove chunk (ask a x by next f fs w)
-  asks_generator a x by next r l h = record {
+  pub asks_generator : (a x : ℕ) (by : ℤ) (next : ℕ) → a + (3 + x) ≤ p.registers → LeadsTo p f.place by → LeadsBack f.place by → IsPlace p next
+      → IsSafeMove chunk (ask a x by next f fs w)
+  asks_generator a x by next r l b h = record {
     sizes = z;
     world = s.world;
-    doing = (value_made s a, (value_made s (a + 1), (value_made s (a + 2), tt)), waiting_frame s (Turns a x by next) (r, l, h));
+    doing = (value_made s a, (value_made s (a + 1), (value_made s (a + 2), tt)), waiting_frame s (Turns a x by next) (r, l, b, h));
   }
 
   turns_with : (v : Value) (vs : List Value) (a x : ℕ) (by : ℤ) → IsMade z.functions v → AreMade z.functions vs → LeadsTo p f.place by
@@ -230,7 +231,7 @@ module _ {chunk : ChunkOf} {z : Sizes} {p : ProtoOf} {f : Frame} {fs : List Fram
       generates a by (first vs) (first (rest vs)) (first (rest (rest vs))) (first_made z.functions vs i)
       (first_made z.functions (rest vs) (rest_made z.functions vs i))
       (first_made z.functions (rest (rest vs)) (rest_made z.functions (rest vs) (rest_made z.functions vs i))) h.1
-  receives (Turns a x by next) vs i h = turns vs a x by next i h.1 h.2
+  receives (Turns a x by next) vs i h = turns vs a x by next i h.1 h.3
 
   -- ---- fast calls
 

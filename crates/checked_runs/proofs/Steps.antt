@@ -19,7 +19,7 @@ use Rattle.checked_runs.specs.Keeps.{LibraryKeeps}
 use Rattle.checked_runs.specs.Laws.{StepsStaySafe}
 use Rattle.checked_runs.proofs.Library.{library_keeps}
 use Rattle.checked_runs.proofs.Rules.{IsSound, proto_sound}
-use Rattle.checked_runs.proofs.Places.{Stands, own_loop, stands_at, goes_on, leads}
+use Rattle.checked_runs.proofs.Places.{Stands, own_loop, stands_at, goes_on, leads, leads_back}
 use Rattle.checked_runs.proofs.Settings.{Setting}
 use Rattle.checked_runs.proofs.Effects.{joins, follows_names, receives, adds, asks_generator}
 use Rattle.checked_runs.proofs.Rows.{row_safe}
@@ -109,6 +109,7 @@ module _ {chunk : ChunkOf} (well : IsWellFormed chunk) (library : LibraryKeeps) 
       (goes_on chunk f.proto p f.place (ForNLoop a by) next sound at refl refl)
   charged_safe p f fs s sound (ForGLoop a by x) next e at =
       asks_generator s a x by next (own_loop at a x _ refl) (leads chunk f.proto p f.place (ForGLoop a by x) next sound at by refl)
+      (leads_back chunk f.proto p f.place (ForGLoop a by x) next sound at by refl refl)
       (goes_on chunk f.proto p f.place (ForGLoop a by x) next sound at refl refl)
   charged_safe p f fs s sound insn next e at = absurd cc
 

@@ -14,7 +14,7 @@ use Rattle.machine_meaning.specs.Chunks.{proto_at}
 use Rattle.machine_meaning.specs.States.{Register, Val, Open, Purpose, Idle, Results, Into, Compares, Joins, Follows, Stores, Begins, Turns, Frame, Focus, Run, Charged, GiveAll, Join, Follow, Invoke, Hand, Fault, Raise, Body, World, State}
 use Rattle.machine_meaning.specs.Moves.{Step, store_of}
 use Rattle.machine_meaning.specs.Calls.{is_dead}
-use Rattle.checked_runs.specs.Places.{IsPlace, LeadsTo, LeadsOn}
+use Rattle.checked_runs.specs.Places.{IsPlace, LeadsTo, LeadsOn, LeadsBack}
 
 -- each element of a list
 abbrev pub Each : {X : Type 0} → (X → Type 0) → List X → Type 0
@@ -90,7 +90,7 @@ Awaits p n place (Joins before to next) = AreMade n before × (to < p.registers)
 Awaits p n place (Follows names to next) = (length names ≤ 3) × (to < p.registers) × IsPlace p next
 Awaits p n place (Stores next) = IsPlace p next
 Awaits p n place (Begins base by) = (base + 2 < p.registers) × LeadsOn p place by
-Awaits p n place (Turns base variables by next) = (base + (3 + variables) ≤ p.registers) × LeadsTo p place by × IsPlace p next
+Awaits p n place (Turns base variables by next) = (base + (3 + variables) ≤ p.registers) × LeadsTo p place by × LeadsBack place by × IsPlace p next
 
 pub record IsWaiting (chunk : ChunkOf) (z : Sizes) (f : Frame) : Type 0 where
   pub code : ProtoOf

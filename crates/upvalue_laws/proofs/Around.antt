@@ -200,7 +200,8 @@ module _ (main : FuncBody) where
           (λ (a : Around s (function f ∷ ps)).
           let n = t.name in
           let seen = further a.from (function a.func) s (function f) ps a.within n.sight (expr n.node ∷ n.after) n.seen in
-          up_by s (function f ∷ ps) a (record { node = n.node; name = n.name; is = n.is; sight = n.sight; after = n.after ++ seen.0; seen = seen.1 }) k t.stands (is_below k s.first lt))
+          up_by s (function f ∷ ps) a (record { node = n.node; name = n.name; is = n.is; sight = n.sight; after = n.after ++ seen.0; seen = seen.1 }) k
+          t.stands (is_below k s.first lt))
           (around s (function f ∷ ps) sees)
       by k t false ge none =
           let n = t.name in

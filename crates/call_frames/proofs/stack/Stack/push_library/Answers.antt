@@ -1,4 +1,4 @@
-use Rattle.std.proofs.Common.{◌≡◌, ◌≤◌, ◌++◌, ◌∷◌, [], sym, ◌∙◌, ap, subst, length, arith}
+use Rattle.std.proofs.Common.{◌≡◌, ◌≤◌, ◌++◌, ◌∷◌, [], sym, ◌∙◌, ap, length, arith}
 use Rattle.call_frames.specs.Stacks as spec
 use Rattle.call_frames.specs.Cells as opens
 use Rattle.call_frames.proofs.Ending.{library_lies}

@@ -1,0 +1,7 @@
+pub mod Distances
+pub mod Lines
+pub mod Landings
+pub mod Steps
+pub mod Jumps
+pub mod Faults
+pub mod Functions
