@@ -1,19 +1,23 @@
 -- Functions are decoded, one by one.
-use Rattle.std.proofs.Common.{◌≡◌, ℕ, ◌+◌, List, [], ◌∷◌, ◌++◌, length, Option, Some, None, refl, sym, subst, ◌∙◌, arith, length-append}
+use Rattle.std.proofs.Common.{◌≡◌, ℕ, suc, ◌+◌, List, [], ◌∷◌, ◌++◌, length, Option, Some, None, IfSome, refl, sym, subst, ◌∙◌, arith, length-append}
 use Rattle.std.proofs.lemmas.List.{length-map}
-use Rattle.std.proofs.lemmas.Option.{slice_get-map}
+use Rattle.std.proofs.lemmas.Option.{slice_get-map, slice_get_within}
+use Rattle.std.specs.List.{AllByRecursion}
 use Rattle.std.specs.Option.{option_map}
 use Rattle.std.specs.Prelude.{slice_get}
 use Rattle.op_words.specs.Chunks.{ProtoOf, chunk_of, proto_of}
 use Rattle.op_words.specs.declared.chunk.Chunk.{Chunk}
 use Rattle.op_words.specs.declared.chunk.Proto.{Proto}
+use Rattle.value_model.specs.declared.value.Value.{Value}
+use Rattle.luau_tables.specs.Own.{HasText}
+use Rattle.luau_tables.specs.Worlds.{MayUseIn}
 use Rattle.luau_tables.specs.declared.globals.LibWorld.{LibWorld}
 use Rattle.machine_meaning.specs.Chunks.{proto_at}
 use Rattle.machine_code.specs.Code.{IsCodeOf, IsFunctionOf}
 use Rattle.machine_code.specs.declared.code.Code.{Code}
 use Rattle.machine_code.specs.declared.code.Function.{Function}
-use Rattle.machine_code.proofs.Lists.{push_at}
-use Rattle.machine_load.specs.Loaded.{IsDecoded, AreDecoded}
+use Rattle.machine_code.proofs.Lists.{push_at, some_at}
+use Rattle.machine_load.specs.Loaded.{IsDecoded, AreDecoded, KnowsImports}
 
 -- what a function of a number is
 abbrev IsOfNumber : LibWorld → Chunk → ℕ → Function → Type 0
@@ -40,6 +44,10 @@ pub all_decoded : (w : LibWorld) (chunk : Chunk) (number : ℕ) (code : Code) �
     → number ≡ length chunk.protos.items → code.main ≡ chunk.main → AreDecoded w chunk code
 all_decoded w chunk number code so end main = record { count = so.count ∙ end; each = λ n p f at there. so.at n f there p at; main = main }
 
+all_from : {X : Type 0} (P : X → Type 0) (xs : List X) → ((n : ℕ) (x : X) → slice_get xs n ≡ Some x → P x) → AllByRecursion P xs
+all_from P [] h = tt
+all_from P (x ∷ xs) h = (h 0 x refl, all_from P xs (λ n y e. h (suc n) y e))
+
 -- ---- so it is the chunk's code
 
 module _ (w : LibWorld) (chunk : Chunk) (code : Code) (so : AreDecoded w chunk code) where
@@ -60,3 +68,17 @@ module _ (w : LibWorld) (chunk : Chunk) (code : Code) (so : AreDecoded w chunk c
             let q = prototype n p at in subst (λ x. IsFunctionOf (chunk_of chunk) w.names x f) q.2 (so.each n q.0 f q.1 there).code;
         main = so.main;
       }
+
+  -- the texts of its imports have their numbers
+  pub knows_imports : KnowsImports w.names code
+  knows_imports = all_from (λ (f : Function). AllByRecursion (λ o. IfSome o (HasText w.names)) f.imports) code.functions (λ n f there.
+      let p = some_at chunk.protos.items n (omega (arith, slice_get_within code.functions n f there, so.count)) in
+      all_texts f.imports (so.each n p.0 f p.1 there).usable)
+    where
+      text_of : (o : Option Value) → IfSome o (MayUseIn w) → IfSome o (HasText w.names)
+      text_of None h = tt
+      text_of (Some v) h = h.1
+
+      all_texts : (os : List (Option Value)) → AllByRecursion (λ o. IfSome o (MayUseIn w)) os → AllByRecursion (λ o. IfSome o (HasText w.names)) os
+      all_texts [] h = tt
+      all_texts (o ∷ os) h = (text_of o h.0, all_texts os h.1)

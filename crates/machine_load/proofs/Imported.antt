@@ -34,6 +34,12 @@ use Rattle.machine_code.proofs.Lists.{all_at}
 use Rattle.machine_world.specs.Functions.{text_of}
 use Rattle.machine_load.specs.Imports as spec
 
+-- ---- those that are found
+
+pub record AreImportsTo (w : LibWorld) (vs : List Value) (number : ℕ) (cs : List Const) (found : List (Option Value)) : Type 0 where
+  pub is : found ≡ map (spec.import_of w vs) (take number cs)
+  pub usable : AllByRecursion (λ (o : Option Value). IfSome o (MayUseIn w)) found
+
 -- ---- names
 
 is_nil_text : (b : Bytes) {A : Type 0} → m.Text b ≡ m.Nil → A

@@ -1,6 +1,7 @@
 //! What import constants lead to when a script is loaded. Its environment is empty then, so each path begins in the global table.
 
-ghost use Rattle.std.specs.Prelude.{◌≡◌, IfOk, map};
+ghost use Rattle.std.specs.Prelude.{◌≡◌, IfOk, IfSome, map};
+ghost use Rattle.std.specs.List.{AllByRecursion};
 ghost use Rattle.luau_tables.specs.Worlds.{IsWorld, MayUseIn};
 ghost use Rattle.machine_load.specs.Imports as spec;
 ghost use Rattle.luau_tables.specs.Rules as rule;
@@ -23,7 +24,8 @@ pub(crate) fn imports(
     values: &[Value],
 ) -> Result<Items<Option<Value>>, OutOfMemory>
     requires { IsWorld world.now }
-    ensures { IfOk result (λ found. found ≡ map (spec.import_of world.now values.now) constants.now) }
+    ensures found { IfOk result (λ found. found ≡ map (spec.import_of world.now values.now) constants.now) }
+    ensures usable { IfOk result (λ found. AllByRecursion (λ o. IfSome o (MayUseIn world.now)) found) }
 {
     let mut found = Items::new(alloc);
     for constant in constants {
@@ -35,7 +37,8 @@ pub(crate) fn imports(
 // What a constant holds as an import.
 fn import_of(world: &LibWorld, values: &[Value], constant: Const) -> Option<Value>
     requires { IsWorld world.now }
-    ensures { result ≡ spec.import_of world.now values.now constant }
+    ensures value { result ≡ spec.import_of world.now values.now constant }
+    ensures usable { IfSome result (MayUseIn world.now) }
 {
     match constant {
         Const::Import(word) => held(world, values, word),
@@ -46,7 +49,8 @@ fn import_of(world: &LibWorld, values: &[Value], constant: Const) -> Option<Valu
 // What the import of a word holds.
 fn held(world: &LibWorld, values: &[Value], word: u32) -> Option<Value>
     requires { IsWorld world.now }
-    ensures { result ≡ spec.held world.now values.now word }
+    ensures value { result ≡ spec.held world.now values.now word }
+    ensures usable { IfSome result (MayUseIn world.now) }
 {
     let first = name_at(values, word / (1 << 20) % (1 << 10));
     let second = name_at(values, word / (1 << 10) % (1 << 10));
@@ -72,7 +76,8 @@ fn name_at(values: &[Value], index: u32) -> Option<StrId>
 // What a path of one name leads to.
 fn one_name(world: &LibWorld, first: Option<StrId>) -> Option<Value>
     requires { IsWorld world.now }
-    ensures { result ≡ spec.one_name world.now first }
+    ensures value { result ≡ spec.one_name world.now first }
+    ensures usable { IfSome result (MayUseIn world.now) }
 {
     match first {
         Some(first) => from_globals(world, first, &[]),
@@ -83,7 +88,8 @@ fn one_name(world: &LibWorld, first: Option<StrId>) -> Option<Value>
 // What a path of two names leads to.
 fn two_names(world: &LibWorld, first: Option<StrId>, second: Option<StrId>) -> Option<Value>
     requires { IsWorld world.now }
-    ensures { result ≡ spec.two_names world.now first second }
+    ensures value { result ≡ spec.two_names world.now first second }
+    ensures usable { IfSome result (MayUseIn world.now) }
 {
     match (first, second) {
         (Some(first), Some(second)) => from_globals(world, first, &[second]),
@@ -99,7 +105,8 @@ fn three_names(
     third: Option<StrId>,
 ) -> Option<Value>
     requires { IsWorld world.now }
-    ensures { result ≡ spec.three_names world.now first second third }
+    ensures value { result ≡ spec.three_names world.now first second third }
+    ensures usable { IfSome result (MayUseIn world.now) }
 {
     match (first, second, third) {
         (Some(first), Some(second), Some(third)) => from_globals(world, first, &[second, third]),
@@ -110,7 +117,8 @@ fn three_names(
 // What names lead to from the global table on.
 fn from_globals(world: &LibWorld, name: StrId, names: &[StrId]) -> Option<Value>
     requires { IsWorld world.now }
-    ensures { result ≡ spec.from_globals world.now name names.now }
+    ensures value { result ≡ spec.from_globals world.now name names.now }
+    ensures usable { IfSome result (MayUseIn world.now) }
 {
     let first = get(world, world.globals.table, name);
     led(world, first, names)
@@ -120,7 +128,8 @@ fn from_globals(world: &LibWorld, name: StrId, names: &[StrId]) -> Option<Value>
 fn led(world: &LibWorld, from: Value, names: &[StrId]) -> Option<Value>
     requires world { IsWorld world.now }
     requires usable { MayUseIn world.now from }
-    ensures { result ≡ spec.led world.now from names.now }
+    ensures value { result ≡ spec.led world.now from names.now }
+    ensures usable { IfSome result (MayUseIn world.now) }
 {
     match from {
         Value::Nil => None,

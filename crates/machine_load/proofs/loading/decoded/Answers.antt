@@ -12,4 +12,4 @@ returns c = λ chunk numbers.
     let code = c.in_ok-plain.ensures.code chunk w.names numbers in
     let imports : c.in_ok-imports.imports ≡ map (import_of w f.consts) p.consts.items = search rules in
     let many = ap length imports ∙ length-map p.consts.items (import_of w f.consts) ∙ sym code.imports in
-    record { code = c.imports_keep_code.ensures chunk w.names (proto_of p) f c.in_ok-imports.imports many code; imports = imports }
+    record { code = c.imports_keep_code.ensures chunk w.names (proto_of p) f c.in_ok-imports.imports many code; imports = imports; usable = c.in_ok-imports.ensures.usable }

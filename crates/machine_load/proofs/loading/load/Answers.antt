@@ -9,7 +9,8 @@ use Rattle.machine_meaning.specs.WellFormed.{IsWellFormed}
 use Rattle.machine_code.specs.Code.{IsCodeOf}
 use Rattle.machine_code.specs.declared.code.Code.{Code}
 use Rattle.machine_world.specs.Parts.{entered, part}
-use Rattle.machine_load.proofs.Decoding.{is_code}
+use Rattle.machine_load.specs.Loaded.{KnowsImports}
+use Rattle.machine_load.proofs.Decoding.{is_code, knows_imports}
 use Rattle.machine_load.proofs.Loads.{main_there, state_begins}
 use Rattle.machine_load.proofs.loading.load.Goals as goal
 
@@ -43,6 +44,7 @@ returns c = λ host starts.
           ∙ state_begins chunk host c.note_strings.new.world w code f chunk.main refl c.in_ok-function.ensures.started
           (c.in_ok-numbers.ensures.store ∙ starts) c.in_ok-code.ensures c.function.ensures main.0 main.1 size replies
           ∙ ap (λ k. loaded k host replies) c.chunk-chunk.ensures.chunk;
+      imports = subst (λ (k : Code). KnowsImports w.names k) (sym c.in_ok-enter.ensures.code) (knows_imports w chunk code c.in_ok-code.ensures);
       sound = c.in_ok-enter.ensures.sound;
       goes = c.in_ok-enter.ensures.goes;
     }
