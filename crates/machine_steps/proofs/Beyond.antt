@@ -80,3 +80,14 @@ frame_one s f g e k = some_one f g (sym e ∙ k)
   where
     some_one : (f g : Frame) → Some f ≡ Some g → f ≡ g
     some_one f g e = cc
+
+-- the function that runs is what the state shows
+pub running_is : (w : LibWorld) (s : StackView) (f : Frame) (c : ClosureId) → innermost s ≡ Some f → f.closure ≡ Some c → (code : Code) (replies : List Reply) →
+    (h : Here w code s replies) → running w.names (objects_of w.arena w.owner).closures s c f ≡ h.frame
+unfolding part
+running_is w s f c e of code replies h =
+    let cs : List Closure = (objects_of w.arena w.owner).closures in
+    let fs : functions_of w.names cs s ≡ h.frame ∷ h.others = ap (λ (t : State). t.functions) (h.is Run) in
+    let split = functions_split w.names cs s f c e of in
+    let both : running w.names cs s c f ∷ waiting w.names cs s.registers s.cells (reverse (outer s)) ≡ h.frame ∷ h.others = sym split ∙ fs in
+    cc

@@ -5,3 +5,4 @@ pub mod Numbered
 pub mod Beyond
 pub mod Staying
 pub mod Lists
+pub mod Readying

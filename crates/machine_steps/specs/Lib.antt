@@ -1,3 +1,4 @@
 pub mod Ready
 pub mod Courses
 pub mod Groups
+pub mod Laws
