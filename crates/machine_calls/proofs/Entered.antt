@@ -129,12 +129,12 @@ extra_is texts false n k behind vs split e =
 
 -- ---- it is entered
 
-body_get : (cs : List Closure) (i : ℕ) → i < length cs → slice_get (map body_of cs) i ≡ Some (get_or (map body_of cs) i (record { proto = 0; cells = [] }))
+pub body_get : (cs : List Closure) (i : ℕ) → i < length cs → slice_get (map body_of cs) i ≡ Some (get_or (map body_of cs) i (record { proto = 0; cells = [] }))
 body_get [] i lt = absurd (omega (arith, lt))
 body_get (c ∷ cs) zero lt = refl
 body_get (c ∷ cs) (suc i) lt = body_get cs i (omega (arith, lt))
 
-body_proto : (cs : List Closure) (i : ℕ) → i < length cs → (get_or (map body_of cs) i (record { proto = 0; cells = [] })).proto ≡ (get_or cs i no_closure).proto
+pub body_proto : (cs : List Closure) (i : ℕ) → i < length cs → (get_or (map body_of cs) i (record { proto = 0; cells = [] })).proto ≡ (get_or cs i no_closure).proto
 body_proto [] i lt = absurd (omega (arith, lt))
 body_proto (c ∷ cs) zero lt = refl
 body_proto (c ∷ cs) (suc i) lt = body_proto cs i (omega (arith, lt))

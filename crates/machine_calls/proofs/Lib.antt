@@ -6,3 +6,4 @@ pub mod Entered
 pub mod Invoked
 pub mod Guarded
 pub mod Faulted
+pub mod Enterable

@@ -3,3 +3,4 @@ pub mod Moving
 pub mod Parameters
 pub mod Protecting
 pub mod Callees
+pub mod Laws
