@@ -1,19 +1,26 @@
 -- What holds of calls in the states that well-formed code comes to.
-use Rattle.std.specs.Prelude.{List}
+use Rattle.std.specs.Prelude.{◌≡◌, ◌≢◌, List, map, true}
 use Rattle.op_words.specs.Chunks.{ChunkOf}
+use Rattle.value_model.specs.Parts.{meant}
 use Rattle.value_model.specs.declared.event.Reply.{Reply}
 use Rattle.value_model.specs.declared.value.Value.{Value}
+use Rattle.bounded_runs.specs.Runs.{Charges}
 use Rattle.luau_tables.specs.Worlds.{MayUseIn}
 use Rattle.luau_tables.specs.declared.globals.LibWorld.{LibWorld}
 use Rattle.call_frames.specs.Stacks.{StackView}
-use Rattle.machine_meaning.specs.States.{Focus}
+use Rattle.machine_meaning.specs.States.{Focus, Invoke, State}
+use Rattle.machine_meaning.specs.Steps.{step}
 use Rattle.machine_meaning.specs.WellFormed.{IsWellFormed}
 use Rattle.checked_runs.specs.Safe.{IsSafe}
 use Rattle.machine_code.specs.Code.{IsCodeOf}
 use Rattle.machine_code.specs.declared.code.Code.{Code}
 use Rattle.machine_world.specs.Parts.{part}
 use Rattle.machine_world.specs.Sound.{IsMachine}
-use Rattle.machine_calls.specs.Moving.{MayEnterValue}
+use Rattle.machine_calls.specs.Callees.{called_as}
+use Rattle.machine_calls.specs.Charging.{charges_call}
+use Rattle.machine_calls.specs.Moving.{MayEnterValue, meant_caller}
+use Rattle.machine_calls.specs.declared.calling.Called.TheVariants.{Other}
+use Rattle.machine_calls.specs.declared.focus.Caller.{Caller}
 
 -- In a safe state of well-formed code, whatever is done there, each value that the script may use may be entered: where it is a Luau
 -- function, the code has that function, and its parameters are among its registers
@@ -21,3 +28,18 @@ abbrev pub SafeMayEnter : Type 0
 SafeMayEnter = (chunk : ChunkOf) (w : LibWorld) (code : Code) (s : StackView) (x : Focus) (replies : List Reply) (callee : Value)
     → IsWellFormed chunk → IsCodeOf chunk w.names code → IsMachine w s → MayUseIn w callee → IsSafe chunk (part w code s x replies)
     → MayEnterValue w.arena code callee
+
+-- the state in which a value is called with values
+abbrev pub calling : LibWorld → Code → StackView → Caller → (callee : Value) → List Value → List Reply → State
+calling w code s by callee vs replies = part w code s (Invoke (meant_caller by) (meant w.names callee) (map (meant w.names) vs)) replies
+
+-- at each call that is said to charge a turn the machine charges one next, before anything is done
+abbrev pub ChargedCallsCharge : Type 0
+ChargedCallsCharge = (chunk : ChunkOf) (w : LibWorld) (code : Code) (s : StackView) (by : Caller) (callee : Value) (vs : List Value) (replies : List Reply)
+    → IsCodeOf chunk w.names code → IsMachine w s → MayUseIn w callee → MayEnterValue w.arena code callee → charges_call by callee ≡ true
+    → (next : State) × (step chunk (calling w code s by callee vs replies) ≡ Charges next)
+
+-- and none where what is no function is called: the machine only goes on, to its `__call` or an error
+abbrev pub OtherCallsGoOn : Type 0
+OtherCallsGoOn = (chunk : ChunkOf) (w : LibWorld) (code : Code) (s : StackView) (by : Caller) (callee : Value) (vs : List Value) (replies : List Reply)
+    → called_as callee ≡ Other → (next : State) → step chunk (calling w code s by callee vs replies) ≢ Charges next
