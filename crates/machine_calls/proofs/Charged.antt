@@ -33,11 +33,12 @@ use Rattle.machine_world.specs.Parts.{part}
 use Rattle.machine_world.specs.Sound.{IsMachine}
 use Rattle.machine_world.proofs.Results.{own_closure}
 use Rattle.machine_calls.specs.Callees.{called_as}
-use Rattle.machine_calls.specs.Laws.{calling, ChargedCallsCharge, OtherCallsGoOn}
+use Rattle.machine_calls.specs.Laws.{calling, ChargedCallsCharge, FreeMovesChargeNone, OtherCallsGoOn}
 use Rattle.machine_calls.specs.Moving.{MayEnter, meant_caller}
 use Rattle.machine_calls.specs.declared.calling.Called.TheVariants as called
 use Rattle.machine_calls.specs.declared.focus.Caller.{Caller}
 use Rattle.machine_calls.specs.declared.focus.Caller.TheVariants as caller
+use Rattle.machine_calls.specs.declared.focus.Led.TheVariants as led
 use Rattle.machine_calls.proofs.Asking.{calls_closure, decided_here, starts_native, starts_host}
 use Rattle.machine_calls.proofs.Entered.{entry, known, body_get, body_proto, entered_as}
 use Rattle.machine_calls.proofs.Invoked.{asked_other}
@@ -125,3 +126,13 @@ charged_calls chunk w code s by (value.Thread t) vs replies of is may enters e =
 pub other_calls : OtherCallsGoOn
 other_calls chunk w code s by callee vs replies other next =
     other_goes chunk w code s vs replies by callee other (callee_of (store_in w) (meant w.names callee)) refl next
+
+pub free_moves : FreeMovesChargeNone
+free_moves chunk w code s x (led.Goes y) w' s' vs replies leads move free next c = goes_no_charge (leads replies) c
+free_moves chunk w code s x (led.Charges y) w' s' vs replies leads move free next c = cc
+free_moves chunk w code s x led.Finishes w' s' vs replies leads move free next c = ends_no_charge (leads replies) c
+free_moves chunk w code s x (led.Dies v) w' s' vs replies leads move free next c = ends_no_charge (leads replies) c
+free_moves chunk w code s x (led.Stops stop) w' s' vs replies leads move free next c = ends_no_charge (leads replies) c
+free_moves chunk w code s x led.Asks w' s' vs replies leads move free next c = cc
+free_moves chunk w code s x (led.Library f) w' s' vs replies leads move free next c = cc
+free_moves chunk w code s x (led.Unbuilt by callee) w' s' vs replies leads move free next c = cc

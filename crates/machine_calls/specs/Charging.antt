@@ -27,3 +27,10 @@ charges_call by callee = charges_sort (called_as callee) by
 abbrev pub is_charge : Led → Bool
 is_charge (led.Charges y) = true
 is_charge l = false
+
+-- the machine has moved: what led there is not left to another
+abbrev pub is_move : Led → Bool
+is_move led.Asks = false
+is_move (led.Library f) = false
+is_move (led.Unbuilt by callee) = false
+is_move l = true

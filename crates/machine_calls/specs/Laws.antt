@@ -1,5 +1,5 @@
 -- What holds of calls in the states that well-formed code comes to.
-use Rattle.std.specs.Prelude.{◌≡◌, ◌≢◌, List, map, true}
+use Rattle.std.specs.Prelude.{◌≡◌, ◌≢◌, List, map, true, false}
 use Rattle.op_words.specs.Chunks.{ChunkOf}
 use Rattle.value_model.specs.Parts.{meant}
 use Rattle.value_model.specs.declared.event.Reply.{Reply}
@@ -17,10 +17,11 @@ use Rattle.machine_code.specs.declared.code.Code.{Code}
 use Rattle.machine_world.specs.Parts.{part}
 use Rattle.machine_world.specs.Sound.{IsMachine}
 use Rattle.machine_calls.specs.Callees.{called_as}
-use Rattle.machine_calls.specs.Charging.{charges_call}
-use Rattle.machine_calls.specs.Moving.{MayEnterValue, meant_caller}
+use Rattle.machine_calls.specs.Charging.{charges_call, is_charge, is_move}
+use Rattle.machine_calls.specs.Moving.{Leads, MayEnterValue, meant_caller}
 use Rattle.machine_calls.specs.declared.calling.Called.TheVariants.{Other}
 use Rattle.machine_calls.specs.declared.focus.Caller.{Caller}
+use Rattle.machine_calls.specs.declared.focus.Led.{Led}
 
 -- In a safe state of well-formed code, whatever is done there, each value that the script may use may be entered: where it is a Luau
 -- function, the code has that function, and its parameters are among its registers
@@ -43,3 +44,9 @@ ChargedCallsCharge = (chunk : ChunkOf) (w : LibWorld) (code : Code) (s : StackVi
 abbrev pub OtherCallsGoOn : Type 0
 OtherCallsGoOn = (chunk : ChunkOf) (w : LibWorld) (code : Code) (s : StackView) (by : Caller) (callee : Value) (vs : List Value) (replies : List Reply)
     → called_as callee ≡ Other → (next : State) → step chunk (calling w code s by callee vs replies) ≢ Charges next
+
+-- a move that is answered with no charge is none that charges a turn
+abbrev pub FreeMovesChargeNone : Type 0
+FreeMovesChargeNone = (chunk : ChunkOf) (w : LibWorld) (code : Code) (s : StackView) (x : Focus) (led : Led) (w' : LibWorld) (s' : StackView)
+    (vs : List Value) (replies : List Reply) → Leads chunk w code s x led w' s' vs → is_move led ≡ true → is_charge led ≡ false
+    → (next : State) → step chunk (part w code s x replies) ≢ Charges next

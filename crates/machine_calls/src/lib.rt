@@ -18,5 +18,5 @@ pub use entering::enter_function;
 pub use focus::{Caller, Focus, Led};
 pub use handing::hand;
 pub use innermost::{Innermost, what_waits};
-pub use laws::{charged_calls_charge, other_calls_go_on, safe_may_enter};
+pub use laws::{charged_calls_charge, free_moves_charge_none, other_calls_go_on, safe_may_enter};
 pub use raising::{fault, raise};
