@@ -158,7 +158,7 @@ known chunk texts code n f is low there = by (proto_at chunk n) refl
         none (p ∷ ps) (suc i) lt e = none ps i (omega (arith, lt)) e
 
 -- as the definition enters it
-entered_as : (chunk : ChunkOf) (b : Body) (bodies : List Body) (p : ProtoOf) (c n : ℕ) (vs given extra : List m.Value) (fs : List machine.Frame) (v : World) → slice_get bodies c ≡ Some b → proto_at chunk b.proto ≡ Some p → n ≡ p.registers → take p.params vs ≡ given → varargs_of p.vararg p.params vs ≡ extra → calls.entered (enter chunk (slice_get bodies c) c vs fs v) (to true None) ≡ Charges (calls.state_with machine.Run (record { closure = c; proto = b.proto; size = n; upvalues = b.cells; varargs = extra; place = 0; registers = machine.filled 0 given; top = length given; purpose = machine.Idle } ∷ fs) v)
+pub entered_as : (chunk : ChunkOf) (b : Body) (bodies : List Body) (p : ProtoOf) (c n : ℕ) (vs given extra : List m.Value) (fs : List machine.Frame) (v : World) → slice_get bodies c ≡ Some b → proto_at chunk b.proto ≡ Some p → n ≡ p.registers → take p.params vs ≡ given → varargs_of p.vararg p.params vs ≡ extra → calls.entered (enter chunk (slice_get bodies c) c vs fs v) (to true None) ≡ Charges (calls.state_with machine.Run (record { closure = c; proto = b.proto; size = n; upvalues = b.cells; varargs = extra; place = 0; registers = machine.filled 0 given; top = length given; purpose = machine.Idle } ∷ fs) v)
 entered_as chunk b bodies p c n vs given extra fs v at is_p size is_given is_extra =
     let f : ℕ → List m.Value → List m.Value → machine.Frame = λ k g x. record { closure = c; proto = b.proto; size = k; upvalues = b.cells; varargs = x; place = 0; registers = machine.filled 0 g; top = length g; purpose = machine.Idle } in
     ap (λ q. calls.entered (enter chunk q c vs fs v) (to true None)) at

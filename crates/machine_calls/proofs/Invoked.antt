@@ -160,7 +160,7 @@ before_is s u h before e = by (is_function u) e
     by false e = by_handler (is_function (metamethod s u (codes "__call"))) (metamethod s u (codes "__call")) (choice.Errs (CallOf (m.kind_of u))) (λ e. absurd (cc)) e
 
 module _ (chunk : ChunkOf) (w : LibWorld) (code : Code) (s : StackView) (by : Caller) (callee : Value) (vs : List Value) (other : called_as callee ≡ called.Other) where
-  asked_other : (o : choice.Outcome) (replies : List Reply) → callee_of (store_in w) (meant w.names callee) ≡ o → step chunk (part w code s (machine.Invoke (meant_caller by) (meant w.names callee) (map (meant w.names) vs)) replies) ≡ decided chunk (deciding.by_callee o (map (meant w.names) vs) (shared w code s replies).waits (store_in w)) (those w s) (shared w code s replies)
+  pub asked_other : (o : choice.Outcome) (replies : List Reply) → callee_of (store_in w) (meant w.names callee) ≡ o → step chunk (part w code s (machine.Invoke (meant_caller by) (meant w.names callee) (map (meant w.names) vs)) replies) ≡ decided chunk (deciding.by_callee o (map (meant w.names) vs) (shared w code s replies).waits (store_in w)) (those w s) (shared w code s replies)
   unfolding part deciding.wait
   asked_other o replies e =
       let v : World = shared w code s replies in

@@ -7,3 +7,4 @@ pub mod Invoked
 pub mod Guarded
 pub mod Faulted
 pub mod Enterable
+pub mod Charged

@@ -3,4 +3,5 @@ pub mod Moving
 pub mod Parameters
 pub mod Protecting
 pub mod Callees
+pub mod Charging
 pub mod Laws

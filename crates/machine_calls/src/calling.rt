@@ -1,6 +1,6 @@
 //! Values are called.
 
-ghost use Rattle.std.specs.Prelude.{◌≡◌, map, IfOk, OnOk};
+ghost use Rattle.std.specs.Prelude.{◌≡◌, false, map, IfOk, OnOk};
 ghost use Rattle.op_words.specs.Chunks.{ChunkOf};
 ghost use Rattle.value_model.specs.Parts.{meant};
 ghost use Rattle.value_model.specs.Values as m;
@@ -9,6 +9,7 @@ ghost use Rattle.machine_meaning.specs.States as states;
 ghost use Rattle.machine_code.specs.Code.{IsCodeOf};
 ghost use Rattle.machine_world.specs.Sound.{IsMachine};
 ghost use Rattle.machine_calls.specs.Callees.{called_as, started};
+ghost use Rattle.machine_calls.specs.Charging.{charges_call, is_charge};
 ghost use Rattle.machine_calls.specs.Moving.{Leads, IsDoing, IsLed, MayEnterValue, meant_caller};
 ghost use Rattle.machine_calls.specs.declared.focus.Focus.TheVariants.{Hand, Invoke};
 ghost use Rattle.machine_calls.specs.declared.calling.Called.TheVariants.{Other};
@@ -48,6 +49,7 @@ pub fn invoke(
     requires code { MayEnterValue world.now.arena machine.old.code callee }
     ensures moves { IfOk result (λ led. (chunk : ChunkOf) → IsCodeOf chunk world.now.names machine.old.code → Leads chunk world.now machine.old.code machine.old.stack (states.Invoke (meant_caller by) (meant world.now.names callee) (map (meant world.now.names) values.old.items)) led world.now machine.new.stack values.new.items) }
     ensures sound { OnOk result (IsMachine world.now machine.new.stack) }
+    ensures charges { IfOk result (λ led. is_charge led ≡ charges_call by callee) }
     ensures led { IfOk result (λ led. IsLed world.now machine.new.stack led values.new.items) }
     ensures code { machine.new.code ≡ machine.old.code }
 {
@@ -81,7 +83,7 @@ fn started(callee: Value) -> Led
 }
 
 // What sort of function a value is.
-fn called_as(callee: &Value) -> Called
+pub(crate) fn called_as(callee: &Value) -> Called
     ensures { result ≡ called_as callee.now }
 {
     match callee {
@@ -104,6 +106,7 @@ fn call_native(
     requires hands { IsDoing world.now machine.old.stack Hand values.old.items }
     ensures moves { IfOk result (λ led. (chunk : ChunkOf) → Leads chunk world.now machine.old.code machine.old.stack (states.Invoke ByScript (m.Native f) (map (meant world.now.names) values.old.items)) led world.now machine.new.stack values.new.items) }
     ensures sound { OnOk result (IsMachine world.now machine.new.stack) }
+    ensures free { IfOk result (λ led. is_charge led ≡ false) }
     ensures led { IfOk result (λ led. IsLed world.now machine.new.stack led values.new.items) }
     ensures code { machine.new.code ≡ machine.old.code }
 {
@@ -126,6 +129,7 @@ fn call_other(
     requires calls { IsDoing world.now machine.now.stack (Invoke by callee) values.old.items }
     requires other { called_as callee ≡ Other }
     ensures moves { IfOk result (λ led. (chunk : ChunkOf) → Leads chunk world.now machine.now.code machine.now.stack (states.Invoke (meant_caller by) (meant world.now.names callee) (map (meant world.now.names) values.old.items)) led world.now machine.now.stack values.new.items) }
+    ensures free { IfOk result (λ led. is_charge led ≡ false) }
     ensures led { IfOk result (λ led. IsLed world.now machine.now.stack led values.new.items) }
 {
     let value = callee;

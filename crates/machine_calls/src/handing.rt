@@ -1,10 +1,11 @@
 //! Values for what waits innermost.
 
-ghost use Rattle.std.specs.Prelude.{◌≡◌, map, IfOk, OnOk};
+ghost use Rattle.std.specs.Prelude.{◌≡◌, false, map, IfOk, OnOk};
 ghost use Rattle.op_words.specs.Chunks.{ChunkOf};
 ghost use Rattle.value_model.specs.Parts.{meant};
 ghost use Rattle.machine_meaning.specs.States as states;
 ghost use Rattle.machine_world.specs.Sound.{IsMachine};
+ghost use Rattle.machine_calls.specs.Charging.{is_charge};
 ghost use Rattle.machine_calls.specs.Waiting.{IsProtected};
 ghost use Rattle.machine_calls.specs.Moving.{Leads, IsDoing, IsLed};
 ghost use Rattle.machine_calls.specs.declared.focus.Focus.TheVariants.{Hand};
@@ -29,6 +30,7 @@ pub fn hand(
     requires hands { IsDoing world.old machine.old.stack Hand values.old.items }
     ensures moves { IfOk result (λ led. (chunk : ChunkOf) → Leads chunk world.old machine.old.code machine.old.stack (states.Hand (map (meant world.old.names) values.old.items)) led world.new machine.new.stack values.new.items) }
     ensures sound { OnOk result (IsMachine world.new machine.new.stack) }
+    ensures free { IfOk result (λ led. is_charge led ≡ false) }
     ensures led { IfOk result (λ led. IsLed world.new machine.new.stack led values.new.items) }
     ensures world { world.new ≡ record world.old { arena = world.new.arena } }
     ensures code { machine.new.code ≡ machine.old.code }
@@ -59,6 +61,7 @@ fn succeed(
     requires hands { IsDoing world.old machine.old.stack Hand values.old.items }
     ensures moves { IfOk result (λ led. (chunk : ChunkOf) → Leads chunk world.old machine.old.code machine.old.stack (states.Hand (map (meant world.old.names) values.old.items)) led world.new machine.new.stack values.new.items) }
     ensures sound { OnOk result (IsMachine world.new machine.new.stack) }
+    ensures free { IfOk result (λ led. is_charge led ≡ false) }
     ensures led { IfOk result (λ led. IsLed world.new machine.new.stack led values.new.items) }
     ensures world { world.new ≡ record world.old { arena = world.new.arena } }
     ensures code { machine.new.code ≡ machine.old.code }

@@ -2,6 +2,7 @@
 #![tactic(auto)]
 
 mod calling;
+mod charging;
 mod entering;
 mod focus;
 mod handing;
@@ -12,9 +13,10 @@ mod protecting;
 mod raising;
 
 pub use calling::invoke;
+pub use charging::charges_call;
 pub use entering::enter_function;
 pub use focus::{Caller, Focus, Led};
 pub use handing::hand;
 pub use innermost::{Innermost, what_waits};
-pub use laws::safe_may_enter;
+pub use laws::{charged_calls_charge, free_moves_charge_none, other_calls_go_on, safe_may_enter};
 pub use raising::{fault, raise};

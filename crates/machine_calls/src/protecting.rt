@@ -1,6 +1,6 @@
 //! Protected calls begin.
 
-ghost use Rattle.std.specs.Prelude.{◌≡◌, ◌<◌, List, map, slice_get, IfOk, OnOk, Some};
+ghost use Rattle.std.specs.Prelude.{◌≡◌, ◌<◌, false, List, map, slice_get, IfOk, OnOk, Some};
 ghost use Rattle.meta_ops.specs.OnIds as kept;
 ghost use Rattle.lib_arguments.specs.Checks.{Checks, most_arguments};
 ghost use Rattle.op_words.specs.Chunks.{ChunkOf};
@@ -12,6 +12,7 @@ ghost use Rattle.value_model.specs.Waits.{ByScript};
 ghost use Rattle.value_model.specs.declared.builtin.Builtin.TheVariants as builtin;
 ghost use Rattle.machine_meaning.specs.States as states;
 ghost use Rattle.machine_world.specs.Sound.{IsMachine};
+ghost use Rattle.machine_calls.specs.Charging.{is_charge};
 ghost use Rattle.machine_calls.specs.Moving.{Leads, IsDoing, IsLed};
 ghost use Rattle.machine_calls.specs.Protecting.{led_by};
 ghost use Rattle.machine_calls.specs.declared.focus.Focus.TheVariants.{Hand};
@@ -35,6 +36,7 @@ pub(crate) fn pcall(
     requires hands { IsDoing world.now machine.old.stack Hand values.old.items }
     ensures moves { IfOk result (λ led. (chunk : ChunkOf) → Leads chunk world.now machine.old.code machine.old.stack (states.Invoke ByScript (m.Native builtin.Pcall) (map (meant world.now.names) values.old.items)) led world.now machine.new.stack values.new.items) }
     ensures sound { OnOk result (IsMachine world.now machine.new.stack) }
+    ensures free { IfOk result (λ led. is_charge led ≡ false) }
     ensures led { IfOk result (λ led. IsLed world.now machine.new.stack led values.new.items) }
     ensures code { machine.new.code ≡ machine.old.code }
 {
@@ -61,6 +63,7 @@ pub(crate) fn xpcall(
     requires hands { IsDoing world.now machine.old.stack Hand values.old.items }
     ensures moves { IfOk result (λ led. (chunk : ChunkOf) → Leads chunk world.now machine.old.code machine.old.stack (states.Invoke ByScript (m.Native builtin.Xpcall) (map (meant world.now.names) values.old.items)) led world.now machine.new.stack values.new.items) }
     ensures sound { OnOk result (IsMachine world.now machine.new.stack) }
+    ensures free { IfOk result (λ led. is_charge led ≡ false) }
     ensures led { IfOk result (λ led. IsLed world.now machine.new.stack led values.new.items) }
     ensures code { machine.new.code ≡ machine.old.code }
 {

@@ -1,11 +1,12 @@
 //! Run errors, and raised values on their way to who catches them.
 
-ghost use Rattle.std.specs.Prelude.{◌≡◌, IfOk, OnOk};
+ghost use Rattle.std.specs.Prelude.{◌≡◌, false, IfOk, OnOk};
 ghost use Rattle.op_words.specs.Chunks.{ChunkOf};
 ghost use Rattle.value_model.specs.Parts.{meant, meant_error, IsKnown};
 ghost use Rattle.luau_tables.specs.Worlds.{Keeps, MayUseIn};
 ghost use Rattle.machine_meaning.specs.States as states;
 ghost use Rattle.machine_world.specs.Sound.{IsMachine};
+ghost use Rattle.machine_calls.specs.Charging.{is_charge};
 ghost use Rattle.machine_calls.specs.Moving.{GoesTo, Leads, IsDoing, IsLed, KnowsImports};
 ghost use Rattle.machine_calls.specs.declared.focus.Focus.TheVariants.{Raise};
 ghost use Rattle.machine_calls.specs.Waiting.{Catches, IsCaught};
@@ -56,6 +57,7 @@ pub fn raise(
     requires usable { MayUseIn world.old v }
     ensures moves { IfOk result (λ led. (chunk : ChunkOf) → Leads chunk world.old machine.old.code machine.old.stack (states.Raise (meant world.old.names v)) led world.new machine.new.stack values.new.items) }
     ensures sound { OnOk result (IsMachine world.new machine.new.stack) }
+    ensures free { IfOk result (λ led. is_charge led ≡ false) }
     ensures led { IfOk result (λ led. IsLed world.new machine.new.stack led values.new.items) }
     ensures world { world.new ≡ record world.old { arena = world.new.arena } }
     ensures code { machine.new.code ≡ machine.old.code }
@@ -88,6 +90,7 @@ fn fail(
     requires usable { MayUseIn world.old v }
     ensures moves { IfOk result (λ led. (chunk : ChunkOf) → Leads chunk world.old machine.old.code machine.old.stack (states.Raise (meant world.old.names v)) led world.new machine.new.stack values.new.items) }
     ensures sound { OnOk result (IsMachine world.new machine.new.stack) }
+    ensures free { IfOk result (λ led. is_charge led ≡ false) }
     ensures led { IfOk result (λ led. IsLed world.new machine.new.stack led values.new.items) }
     ensures world { world.new ≡ record world.old { arena = world.new.arena } }
     ensures code { machine.new.code ≡ machine.old.code }
@@ -110,6 +113,7 @@ fn guard(
     requires usable { MayUseIn world.old v }
     ensures moves { IfOk result (λ led. (chunk : ChunkOf) → Leads chunk world.old machine.old.code machine.old.stack (states.Raise (meant world.old.names v)) led world.new machine.new.stack values.new.items) }
     ensures sound { OnOk result (IsMachine world.new machine.new.stack) }
+    ensures free { IfOk result (λ led. is_charge led ≡ false) }
     ensures led { IfOk result (λ led. IsLed world.new machine.new.stack led values.new.items) }
     ensures world { world.new ≡ record world.old { arena = world.new.arena } }
     ensures code { machine.new.code ≡ machine.old.code }
