@@ -2,5 +2,6 @@ pub mod Clear
 pub mod LoopWords
 pub mod Counts
 pub mod Linked
+pub mod Ready
 pub mod Scripts
 pub mod Accepted
