@@ -5,3 +5,4 @@ pub mod Steps
 pub mod Jumps
 pub mod Faults
 pub mod Functions
+pub mod Whole

@@ -37,7 +37,7 @@ use Rattle.compiled_runs.proofs.Blocks.{AllAllowed}
 use Rattle.compiled_runs.proofs.Chunks.{Chunk, CodeOf}
 use Rattle.compiled_runs.proofs.Bodies.{func_protos, coded_at, in_function, bodies_go}
 
-none_listed : (ks : List ℕ) → ((k : ℕ) → Contains ks k → ⊥) → ks ≡ []
+pub none_listed : (ks : List ℕ) → ((k : ℕ) → Contains ks k → ⊥) → ks ≡ []
 none_listed [] none = refl
 none_listed (k ∷ ks) none = absurd (none k (0, omega arith, refl))
 

@@ -20,14 +20,18 @@ use Rattle.built_scripts.proofs.Trees as built_scripts
 use Rattle.compiled_scripts.specs.Laws.{IsAccepted, RunAlike, BuiltRunAlike, ScriptsRunAlike, NeverStuck, ParsedAccepted}
 use Rattle.compiled_scripts.proofs.Scripts.{runs_alike}
 
--- numbers change no parameters
+-- numbers change neither parameters nor whether there are more arguments
 no_parameters : (block : List Stat) → (out-FuncBody (numbered (main_function block)).main).params ≡ []
 no_parameters block = search (rules, folds.the_lemmas, views.the_lemmas)
+
+vararg : (block : List Stat) → (out-FuncBody (numbered (main_function block)).main).vararg ≡ true
+vararg block = search (rules, folds.the_lemmas, views.the_lemmas)
 
 pub parsed_accepted : ParsedAccepted
 parsed_accepted tokens tree b p is sound proper = record {
   numbered = record { main = main_function p.0.block; is = p.0.numbers };
   no_parameters = ap (λ (t : Tree). (out-FuncBody t.main).params) p.0.numbers ∙ no_parameters p.0.block;
+  vararg = ap (λ (t : Tree). (out-FuncBody t.main).vararg) p.0.numbers ∙ vararg p.0.block;
   bound = is;
   sound = sound;
   proper = proper;

@@ -2,5 +2,7 @@ pub mod Clear
 pub mod LoopWords
 pub mod Counts
 pub mod Linked
+pub mod Ready
+pub mod Main
 pub mod Scripts
 pub mod Accepted

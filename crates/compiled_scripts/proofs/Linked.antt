@@ -34,12 +34,12 @@ use Rattle.compiled_scripts.proofs.Counts.{HasFew, HaveFew}
 -- ---- lists
 
 -- a function that was emitted is linked at the same place
-record LinkedThere (sizes : List FuncRegisters) (b : Bindings) (p : Prototype) (qs : List ProtoOf) (n : ℕ) : Type 0 where
-  proto : ProtoOf
-  found : slice_get qs n ≡ Some proto
-  linked : IsLinkedProto sizes b p proto
+pub record LinkedThere (sizes : List FuncRegisters) (b : Bindings) (p : Prototype) (qs : List ProtoOf) (n : ℕ) : Type 0 where
+  pub proto : ProtoOf
+  pub found : slice_get qs n ≡ Some proto
+  pub linked : IsLinkedProto sizes b p proto
 
-linked_there : (sizes : List FuncRegisters) (b : Bindings) (ps : List Prototype) (qs : List ProtoOf) → AreLinked sizes b ps qs → (n : ℕ) (p : Prototype)
+pub linked_there : (sizes : List FuncRegisters) (b : Bindings) (ps : List Prototype) (qs : List ProtoOf) → AreLinked sizes b ps qs → (n : ℕ) (p : Prototype)
     → slice_get ps n ≡ Some p → LinkedThere sizes b p qs n
 linked_there sizes b [] [] h n p e = some_none e
 linked_there sizes b [] (q ∷ qs) h n p e = some_none e

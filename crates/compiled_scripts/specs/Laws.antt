@@ -22,11 +22,12 @@ use Rattle.machine_meaning.specs.WellFormed.{IsWellFormed}
 use Rattle.script_compiler.specs.Compiled.{IsNumbered, IsCompiled}
 use Rattle.compiled_runs.specs.Built.{built_func}
 
--- A script that is accepted, with its bindings: its nodes are numbered in source order, its main function takes no named parameters, it
--- breaks no rule of scopes and sizes, and it is of the form that the grammar makes
+-- A script that is accepted, with its bindings: its nodes are numbered in source order, its main function takes any number of arguments and
+-- names none, it breaks no rule of scopes and sizes, and it is of the form that the grammar makes
 pub record IsAccepted (tree : Tree) (b : Bindings) : Type 0 where
   pub numbered : IsNumbered tree
   pub no_parameters : (out-FuncBody tree.main).params ≡ []
+  pub vararg : (out-FuncBody tree.main).vararg ≡ true
   pub bound : b ≡ bound tree
   pub sound : faults tree ≡ []
   pub proper : IsProper tree
