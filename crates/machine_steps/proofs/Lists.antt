@@ -5,7 +5,7 @@ use Rattle.std.proofs.lemmas.Bool.Decides.{nat_tests}
 use Rattle.call_frames.specs.declared.frame.Frame.{Frame}
 use Rattle.call_frames.specs.Stacks.{StackView}
 use Rattle.call_frames.specs.Cells.{innermost}
-use Rattle.op_words.specs.declared.insn.Insn.TheVariants.{Return}
+use Rattle.op_words.specs.declared.insn.Insn.TheVariants.{Return, SetList}
 use Rattle.op_words.specs.Chunks.{ChunkOf}
 use Rattle.machine_meaning.specs.Instructions.{row}
 use Rattle.machine_meaning.specs.Needs.{listed}
@@ -82,3 +82,17 @@ module _ (s : StackView) (runs : Runs s) where
   returns_like chunk words next count base from own e f fs v =
       returns_by chunk words next count base own (reaches s base) refl f fs v
       ∙ ap (λ n. row chunk words (Return n count) next f fs v) (sym e)
+
+  sets_by : (chunk : ChunkOf) (words : List ℕ) (next to count base key : ℕ) → AreOwn s (listed base count) → (b : Bool) → reaches s base ≡ b →
+      (f : machine.Frame) (fs : List machine.Frame) (v : machine.World) →
+      row chunk words (SetList to base count key) next f fs v ≡ row chunk words (SetList to (cond b base 0) count key) next f fs v
+  sets_by chunk words next to count base key own true e f fs v = refl
+  sets_by chunk words next to count base key own false e f fs v =
+      subst (λ n. row chunk words (SetList to base n key) next f fs v ≡ row chunk words (SetList to 0 n key) next f fs v) (sym (empty_beyond count base own e)) refl
+
+  pub sets_like : (chunk : ChunkOf) (words : List ℕ) (next to count base from key : ℕ) → AreOwn s (listed base count) → from ≡ cond (reaches s base) base 0 →
+      (f : machine.Frame) (fs : List machine.Frame) (v : machine.World) →
+      row chunk words (SetList to base count key) next f fs v ≡ row chunk words (SetList to from count key) next f fs v
+  sets_like chunk words next to count base from key own e f fs v =
+      sets_by chunk words next to count base key own (reaches s base) refl f fs v
+      ∙ ap (λ n. row chunk words (SetList to n count key) next f fs v) (sym e)

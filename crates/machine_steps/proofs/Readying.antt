@@ -1,27 +1,23 @@
 -- What a safe state of well-formed code says of the machine's own.
-use Rattle.std.proofs.Common.{◌≡◌, ℕ, ◌+◌, ◌-◌, ◌<◌, ◌^◌, ℤ, pos, negsuc, Bool, true, false, List, [], ◌∷◌, ◌++◌, length, map, reverse, Option, Some, None, IsSomeAnd, refl, sym, ◌∙◌, ap, subst, arith, get_or}
+use Rattle.std.proofs.Common.{◌≡◌, ℕ, ◌+◌, ◌-◌, ◌<◌, ◌^◌, ℤ, pos, negsuc, Bool, true, false, List, [], ◌∷◌, length, Option, Some, None, IsSomeAnd, refl, sym, ◌∙◌, ap, subst, arith, get_or}
 use Rattle.std.specs.Prelude.{MatchOption, slice_get}
 use Rattle.std.specs.Option.{option_and_then}
 use Rattle.std.proofs.lemmas.Option.{slice_get_within}
 use Rattle.std.proofs.lemmas.List.{length-map}
 use Rattle.value_model.specs.Values.{Bytes}
 use Rattle.value_model.specs.declared.event.Reply.{Reply}
-use Rattle.value_model.specs.declared.ids.ClosureId.{ClosureId}
 use Rattle.value_arena.specs.declared.closure.Closure.{Closure}
 use Rattle.value_arena.specs.Objects.{no_closure}
 use Rattle.value_arena.specs.Arenas.{objects_of, closure_at}
 use Rattle.luau_tables.specs.declared.globals.LibWorld.{LibWorld}
-use Rattle.call_frames.specs.declared.frame.Frame.{Frame}
 use Rattle.call_frames.specs.Stacks.{StackView}
 use Rattle.call_frames.specs.Cells.{innermost}
-use Rattle.op_words.specs.declared.insn.Insn.{Insn}
 use Rattle.op_words.specs.declared.chunk.Const.{Const}
 use Rattle.op_words.specs.Decoding.{insn_at}
 use Rattle.op_words.specs.Chunks.{ChunkOf, ProtoOf}
 use Rattle.machine_meaning.specs.Chunks.{proto_at}
 use Rattle.machine_meaning.specs.Constants.{constant_at}
-use Rattle.machine_meaning.specs.Needs.{Range, Want, registers_of, constants_of, upvalue_of, jump_of, goes_back}
-use Rattle.machine_meaning.specs.WellFormed.{IsWellFormed}
+use Rattle.machine_meaning.specs.Needs.{Want, registers_of, constants_of, upvalue_of, jump_of, goes_back}
 use Rattle.machine_meaning.specs.States as machine
 use Rattle.machine_meaning.specs.States.{Run}
 use Rattle.machine_code.specs.Code.{IsCodeOf, IsFunctionOf, IsConstant, value_or_nil}
@@ -31,19 +27,18 @@ use Rattle.machine_code.proofs.Lists.{some_at, all_at}
 use Rattle.machine_code.proofs.Reading.{line_fetched, read_within}
 use Rattle.machine_code.specs.Laws as decoded
 use Rattle.machine_world.specs.Functions.{running, place_of_cell}
-use Rattle.machine_world.specs.Parts.{part}
 use Rattle.machine_world.specs.Rows.{place_here, proto_here}
 use Rattle.machine_world.specs.Sound.{IsLuau, Runs, IsMachine, GoesOn, HasRegister, HasUpvalue}
 use Rattle.machine_world.proofs.Frames.{Inner, inner, of_frame}
 use Rattle.machine_world.proofs.Going.{runs_on}
 use Rattle.machine_world.proofs.Here.{Here, here}
 use Rattle.machine_world.proofs.Upvalues.{function_there, closure_is}
-use Rattle.checked_runs.specs.Places.{IsPlace, LeadsOn, LeadsBack}
+use Rattle.checked_runs.specs.Places.{LeadsOn, LeadsBack}
 use Rattle.checked_runs.specs.Safe.{Each, IsSafe}
 use Rattle.checked_runs.specs.Operands.{AreOwn as AreOwnOf, IsConstant as IsConstantOf, HasOperands}
 use Rattle.checked_runs.proofs.Lines.{line_read}
 use Rattle.checked_runs.proofs.Operands.{operands_are_there}
-use Rattle.machine_steps.specs.Ready.{AreOwn, HasConstant, HasLine, IsReady, Jumps, StandsAt, function_here, line_here}
+use Rattle.machine_steps.specs.Ready.{AreOwn, HasConstant, IsReady, Jumps, function_here}
 use Rattle.machine_steps.specs.Laws.{IsAtLine, SafeCodeIsReady}
 use Rattle.machine_steps.proofs.Beyond.{running_is}
 use Rattle.machine_steps.proofs.Constants.{some_is, some_on}

@@ -22,7 +22,7 @@ use Rattle.machine_code.specs.declared.code.Code.{Code}
 use Rattle.machine_world.specs.Parts.{part}
 use Rattle.machine_world.specs.Rows.{row_in, Makes, MakesTo, MakesCharged}
 use Rattle.machine_world.specs.Sound.{Runs}
-use Rattle.machine_world.proofs.Here.{here, row_here}
+use Rattle.machine_world.proofs.Here.{Here, here, row_here}
 use Rattle.machine_flow.specs.Counts.{Comes}
 use Rattle.machine_flow.specs.declared.counts.Failure.{Failure}
 use Rattle.machine_flow.specs.declared.counts.Failure.TheVariants as failure
@@ -101,6 +101,14 @@ unfolding Does
 executes_done chunk p w w' code s s' insn i next n x same turn runs stands does =
     executes chunk p w w' code s s' insn i next n (course_next w'.names x) false same turn runs stands
     (λ replies. reaches_next chunk _ n x w' code s' replies (does replies))
+
+-- of a row that is the same there
+pub does_like : (chunk : ChunkOf) (w w' : LibWorld) (code : Code) (s s' : StackView) (r r' : Row) (n : ℕ) (x : Next) → Runs s → Does chunk r' w code s n x w' s' →
+    ((replies : List Reply) (h : Here w code s replies) → r h.frame h.others h.world ≡ r' h.frame h.others h.world) → Does chunk r w code s n x w' s'
+unfolding Does
+does_like chunk w w' code s s' r r' n x runs does same = λ replies.
+    let h = here w code s replies runs in
+    subst (λ m. ComesTo chunk m n x w' code s' replies) (sym (row_here h r ∙ same replies h ∙ sym (row_here h r'))) (does replies)
 
 -- ---- turns
 

@@ -1,7 +1,7 @@
 -- The instructions, by what they do.
 use Rattle.std.specs.Prelude.{Bool, true, false, ◌||◌}
 use Rattle.op_words.specs.declared.insn.Insn.{Insn}
-use Rattle.op_words.specs.declared.insn.Insn.TheVariants.{Nop, LoadNil, LoadB, LoadN, LoadK, Move, GetGlobal, SetGlobal, GetUpvalue, SetUpvalue, CloseUpvalues, GetImport, GetTable, SetTable, GetTableKS, SetTableKS, GetTableN, SetTableN, NameCall, Call, Return, Jump, JumpBack, JumpIf, JumpIfNot, JumpIfEq, JumpIfLe, JumpIfLt, JumpIfNotEq, JumpIfNotLe, JumpIfNotLt, Add, Sub, Mul, Div, Mod, Pow, Idiv, AddK, SubK, MulK, DivK, ModK, PowK, IdivK, SubRK, DivRK, And, Or, AndK, OrK, Not, Minus, Length, ForNPrep, ForNLoop, ForGLoop, GetVarargs, PrepVarargs, JumpX, LoadKX, JumpXEqKNil, JumpXEqKB, JumpXEqKN, JumpXEqKS}
+use Rattle.op_words.specs.declared.insn.Insn.TheVariants.{Nop, LoadNil, LoadB, LoadN, LoadK, Move, GetGlobal, SetGlobal, GetUpvalue, SetUpvalue, CloseUpvalues, GetImport, GetTable, SetTable, GetTableKS, SetTableKS, GetTableN, SetTableN, NameCall, Call, Return, Jump, JumpBack, JumpIf, JumpIfNot, JumpIfEq, JumpIfLe, JumpIfLt, JumpIfNotEq, JumpIfNotLe, JumpIfNotLt, Add, Sub, Mul, Div, Mod, Pow, Idiv, AddK, SubK, MulK, DivK, ModK, PowK, IdivK, SubRK, DivRK, And, Or, AndK, OrK, Not, Minus, Length, NewTable, SetList, ForNPrep, ForNLoop, ForGPrep, ForGLoop, GetVarargs, PrepVarargs, JumpX, LoadKX, JumpXEqKNil, JumpXEqKB, JumpXEqKN, JumpXEqKS}
 
 -- a register is given a value that is there
 abbrev pub is_load : Insn → Bool
@@ -99,6 +99,17 @@ is_count (ForNPrep base by) = true
 is_count (ForNLoop base by) = true
 is_count insn = false
 
+-- a generic loop begins
+abbrev pub is_iteration : Insn → Bool
+is_iteration (ForGPrep base by) = true
+is_iteration insn = false
+
+-- a table is made, or a list of values stored in one
+abbrev pub is_table : Insn → Bool
+is_table (NewTable to) = true
+is_table (SetList table from count key) = true
+is_table insn = false
+
 -- values are taken in hand
 abbrev pub is_call : Insn → Bool
 is_call (Call base arguments results) = true
@@ -113,8 +124,8 @@ is_import insn = false
 
 -- those that leave the script's objects as they are
 abbrev pub is_still : Insn → Bool
-is_still insn = is_load insn || is_jump insn || is_operator insn || is_comparison insn || is_constant_operator insn || is_count insn
+is_still insn = is_load insn || is_jump insn || is_operator insn || is_comparison insn || is_constant_operator insn || is_count insn || is_iteration insn
 
 -- those that are built
 abbrev pub is_built : Insn → Bool
-is_built insn = is_still insn || is_read insn || is_call insn || is_write insn || is_cell insn
+is_built insn = is_still insn || is_read insn || is_call insn || is_write insn || is_cell insn || is_table insn

@@ -87,8 +87,8 @@ fn reaches(machine: &Machine, register: u8) -> bool
     register <= frame.registers
 }
 
-// Where a list of values begins. One that begins beyond the registers has none, and begins anywhere.
-fn begin(machine: &Machine, register: u8) -> u8
+/// Where a list of values begins. One that begins beyond the registers has none, and begins anywhere.
+pub(crate) fn begin(machine: &Machine, register: u8) -> u8
     requires { Runs machine.now.stack }
     ensures { result ≡ cond (reaches machine.now.stack register) register 0 }
 {

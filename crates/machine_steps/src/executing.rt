@@ -10,9 +10,10 @@ ghost use Rattle.machine_steps.specs.Ready.{BeginsWithin, IsReady, StandsAt};
 use crate::calls::call;
 use crate::cells::cell;
 use crate::done::Done;
-use crate::groups::{is_call, is_cell, is_read, is_still, is_write};
+use crate::groups::{is_call, is_cell, is_read, is_still, is_table, is_write};
 use crate::reads::read;
 use crate::still::still;
+use crate::tables::table;
 use crate::writes::write;
 use luau_tables::LibWorld;
 use machine_rows::Next;
@@ -62,6 +63,10 @@ pub fn execute<L: Ledger>(
     if is_cell(insn) {
         cell(machine, world, line);
         return Ok((Done::Next(Next::Continues), 0));
+    }
+    if is_table(insn) {
+        let next = table(machine, world, line)?;
+        return Ok((Done::Next(next), 0));
     }
     Ok((Done::NotBuilt, 0))
 }

@@ -139,6 +139,20 @@ pub(crate) fn is_count(insn: Insn) -> bool
     matches!(insn, Insn::ForNPrep { .. } | Insn::ForNLoop { .. })
 }
 
+/// Whether a generic loop begins.
+pub(crate) fn is_iteration(insn: Insn) -> bool
+    ensures { result ≡ group.is_iteration insn }
+{
+    matches!(insn, Insn::ForGPrep { .. })
+}
+
+/// Whether a table is made, or a list of values stored in one.
+pub(crate) fn is_table(insn: Insn) -> bool
+    ensures { result ≡ group.is_table insn }
+{
+    matches!(insn, Insn::NewTable { .. } | Insn::SetList { .. })
+}
+
 /// Whether values are taken in hand.
 pub(crate) fn is_call(insn: Insn) -> bool
     ensures { result ≡ group.is_call insn }
@@ -176,4 +190,5 @@ pub(crate) fn is_still(insn: Insn) -> bool
         || is_comparison(insn)
         || is_constant_operator(insn)
         || is_count(insn)
+        || is_iteration(insn)
 }

@@ -9,6 +9,7 @@ mod counts;
 mod done;
 mod executing;
 mod groups;
+mod iterations;
 mod jumps;
 mod laws;
 mod lines;
@@ -16,6 +17,7 @@ mod loads;
 mod operators;
 mod reads;
 mod still;
+mod tables;
 mod writes;
 
 pub use done::Done;

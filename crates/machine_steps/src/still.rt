@@ -11,7 +11,8 @@ ghost use Rattle.machine_steps.specs.Ready.{IsReady, StandsAt};
 use crate::comparisons::comparison;
 use crate::constant_operators::constant_operator;
 use crate::counts::count;
-use crate::groups::{is_comparison, is_constant_operator, is_jump, is_load, is_operator};
+use crate::groups::{is_comparison, is_constant_operator, is_count, is_jump, is_load, is_operator};
+use crate::iterations::iterate;
 use crate::jumps::jump;
 use crate::loads::load;
 use crate::operators::operator;
@@ -48,5 +49,8 @@ pub(crate) fn still(machine: &mut Machine, world: &LibWorld, line: Line) -> Next
     if is_constant_operator(insn) {
         return constant_operator(machine, world, line);
     }
-    count(machine, world, line)
+    if is_count(insn) {
+        return count(machine, world, line);
+    }
+    iterate(machine, world, line)
 }

@@ -12,3 +12,6 @@ returns-clause-does g c = λ chunk p stands.
     let w = c.args.world.now in
     let k = c.args.machine.now in
     executes_untold chunk p w k.code k.stack c.args.line.insn c.args.line.next (sym c.is_still.ensures ∙ c.if-is_still.false) (sym c.is_call.ensures ∙ c.if-is_call.false) (runs_on k.stack c.requires.goes) stands
+
+pub returns-then-is_table-clause-stays : goal.returns-then-is_table-clause-stays
+returns-then-is_table-clause-stays g c = stays_kept c.args.world.now c.table.new.world c.in_ok-next-2.ensures.keeps

@@ -1,0 +1,6 @@
+//! What closures capture, as the machine's definition has it.
+#![tactic(auto)]
+
+mod capturing;
+
+pub use capturing::capture;
