@@ -4,5 +4,6 @@ pub mod Counts
 pub mod Linked
 pub mod Ready
 pub mod Main
+pub mod WellFormed
 pub mod Scripts
 pub mod Accepted

@@ -1,5 +1,5 @@
 -- The main function of a compiled script's chunk takes any number of arguments, names none and captures nothing.
-use Rattle.std.proofs.Common.{◌≡◌, ℕ, true, List, [], ◌∷◌, ◌++◌, length, Some, refl, sym, ap, ◌∙◌, subst, arith, length-append}
+use Rattle.std.proofs.Common.{◌≡◌, ℕ, true, List, [], ◌∷◌, length, Some, refl, ap, ◌∙◌, subst, arith, length-append}
 use Rattle.std.specs.Prelude.{slice_get, unwrap_or}
 use Rattle.syntax_tree.specs.declared.bindings.Bindings.{Bindings}
 use Rattle.syntax_tree.specs.declared.tree.FuncBody.{FuncBody, out-FuncBody}
@@ -7,10 +7,9 @@ use Rattle.syntax_tree.specs.declared.tree.Tree.{Tree}
 use Rattle.syntax_tree.specs.Bound.{bound}
 use Rattle.syntax_tree.specs.Numbers.{numbered}
 use Rattle.op_words.specs.Chunks.{ChunkOf}
-use Rattle.emit_expr.specs.declared.draft.Prototype.{Prototype}
 use Rattle.emit_expr.specs.Names.{upvalues_at}
 use Rattle.emit_expr.specs.Puts.{start}
-use Rattle.scope_laws.specs.Sight.{function, itself, nothing}
+use Rattle.scope_laws.specs.Sight.{itself, nothing}
 use Rattle.scope_laws.proofs.Capturing.{functions_capture}
 use Rattle.scope_laws.proofs.Places.{get_last}
 use Rattle.function_registers.specs.Registers.{all_entries}
