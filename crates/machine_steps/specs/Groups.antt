@@ -1,7 +1,7 @@
 -- The instructions, by what they do.
 use Rattle.std.specs.Prelude.{Bool, true, false, ◌||◌}
 use Rattle.op_words.specs.declared.insn.Insn.{Insn}
-use Rattle.op_words.specs.declared.insn.Insn.TheVariants.{Nop, LoadNil, LoadB, LoadN, LoadK, Move, GetGlobal, SetGlobal, GetUpvalue, SetUpvalue, CloseUpvalues, GetImport, GetTable, SetTable, GetTableKS, SetTableKS, GetTableN, SetTableN, NameCall, Call, Return, Jump, JumpBack, JumpIf, JumpIfNot, JumpIfEq, JumpIfLe, JumpIfLt, JumpIfNotEq, JumpIfNotLe, JumpIfNotLt, Add, Sub, Mul, Div, Mod, Pow, Idiv, AddK, SubK, MulK, DivK, ModK, PowK, IdivK, SubRK, DivRK, And, Or, AndK, OrK, Not, Minus, Length, NewTable, SetList, ForNPrep, ForNLoop, ForGPrep, ForGLoop, GetVarargs, PrepVarargs, JumpX, LoadKX, JumpXEqKNil, JumpXEqKB, JumpXEqKN, JumpXEqKS}
+use Rattle.op_words.specs.declared.insn.Insn.TheVariants.{Nop, LoadNil, LoadB, LoadN, LoadK, Move, GetGlobal, SetGlobal, GetUpvalue, SetUpvalue, CloseUpvalues, GetImport, GetTable, SetTable, GetTableKS, SetTableKS, GetTableN, SetTableN, NameCall, Call, Return, Jump, JumpBack, JumpIf, JumpIfNot, JumpIfEq, JumpIfLe, JumpIfLt, JumpIfNotEq, JumpIfNotLe, JumpIfNotLt, Add, Sub, Mul, Div, Mod, Pow, Idiv, AddK, SubK, MulK, DivK, ModK, PowK, IdivK, SubRK, DivRK, And, Or, AndK, OrK, Concat, Not, Minus, Length, NewTable, SetList, ForNPrep, ForNLoop, ForGPrep, ForGLoop, GetVarargs, PrepVarargs, JumpX, LoadKX, JumpXEqKNil, JumpXEqKB, JumpXEqKN, JumpXEqKS}
 
 -- a register is given a value that is there
 abbrev pub is_load : Insn → Bool
@@ -110,6 +110,11 @@ is_table (NewTable to) = true
 is_table (SetList table from count key) = true
 is_table insn = false
 
+-- a run of values is joined
+abbrev pub is_join : Insn → Bool
+is_join (Concat to first last) = true
+is_join insn = false
+
 -- values are taken in hand
 abbrev pub is_call : Insn → Bool
 is_call (Call base arguments results) = true
@@ -128,4 +133,4 @@ is_still insn = is_load insn || is_jump insn || is_operator insn || is_compariso
 
 -- those that are built
 abbrev pub is_built : Insn → Bool
-is_built insn = is_still insn || is_read insn || is_call insn || is_write insn || is_cell insn || is_table insn
+is_built insn = is_still insn || is_read insn || is_call insn || is_write insn || is_cell insn || is_table insn || is_join insn

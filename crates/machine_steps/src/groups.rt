@@ -153,6 +153,13 @@ pub(crate) fn is_table(insn: Insn) -> bool
     matches!(insn, Insn::NewTable { .. } | Insn::SetList { .. })
 }
 
+/// Whether a run of values is joined.
+pub(crate) fn is_join(insn: Insn) -> bool
+    ensures { result ≡ group.is_join insn }
+{
+    matches!(insn, Insn::Concat { .. })
+}
+
 /// Whether values are taken in hand.
 pub(crate) fn is_call(insn: Insn) -> bool
     ensures { result ≡ group.is_call insn }

@@ -10,6 +10,7 @@ mod done;
 mod executing;
 mod groups;
 mod iterations;
+mod joins;
 mod jumps;
 mod laws;
 mod lines;

@@ -15,3 +15,6 @@ returns-clause-does g c = λ chunk p stands.
 
 pub returns-then-is_table-clause-stays : goal.returns-then-is_table-clause-stays
 returns-then-is_table-clause-stays g c = stays_kept c.args.world.now c.table.new.world c.in_ok-next-2.ensures.keeps
+
+pub returns-then-is_join-clause-stays : goal.returns-then-is_join-clause-stays
+returns-then-is_join-clause-stays g c = stays_kept c.args.world.now c.join.new.world c.in_ok-next-3.ensures.keeps
